@@ -2,7 +2,7 @@
 use Rattle.std.proofs.Common.{◌≡◌, ℕ, List, Option, sym, ◌∙◌}
 use Rattle.vc_process.specs.ProcessStep.{ProcessStep, Offers, Wants, Chooses, Stops, Meets, Rests, Finishes, Receives}
 use Rattle.vc_occam.proofs.Determinate.{doing_one, offers_sent, meets_sent}
-use Rattle.vc_occam.proofs.Keeping.{doing_keeps_use}
+use Rattle.vc_occam.proofs.Preservation.{doing_keeps_use}
 use Rattle.vc_occam.proofs.Sites.{doing_keeps}
 use Rattle.vc_accepted.specs.Determinate.{IsLawful, proceeds, DeedsLeadToOneState, LawfulProcessesStaySo}
 use Rattle.vc_accepted.specs.Process.{Process, Goes}

@@ -18,21 +18,21 @@ use Rattle.vc_occam.specs.States.{IsTraced}
 use Rattle.vc_process.specs.Numbering.{written}
 use Rattle.vc_occam.specs.Traces.{Comm}
 use Rattle.vc_occam.proofs.Rests.{begin_is}
-use Rattle.vc_occam.proofs.Standing.{stands}
+use Rattle.vc_occam.proofs.TraceStates.{stands}
 use Rattle.vc_plan.specs.declared.plan.Plan.{Plan}
 use Rattle.vc_plan.specs.Accepted.{IsAccepted}
 use Rattle.vc_plan.specs.Limits.{kinds_of}
 use Rattle.vc_accepted.specs.NetworkOf.{network_of}
-use Rattle.vc_accepted.proofs.Accepting.{accepted}
+use Rattle.vc_accepted.proofs.AcceptedNetwork.{accepted}
 use Rattle.vc_switch.specs.Waiting.{Waiting}
 use Rattle.vc_tokens.specs.Tokens.{Token}
 use Rattle.vc_accepted.specs.Begin.{node_plan, begin_of}
 use Rattle.vc_accepted.specs.OneList.{by, IsMadeBy, IsTold, IsToldAlong, AllIsTold}
 use Rattle.vc_accepted.specs.Process.{Process, does}
-use Rattle.vc_accepted.proofs.Stepped.{AreSaid, IsGood, Leads, trace_told}
-use Rattle.vc_accepted.proofs.Joined.{AllSaid, one_of_all}
+use Rattle.vc_accepted.proofs.StepTraces.{AreSaid, IsGood, Leads, trace_told}
+use Rattle.vc_accepted.proofs.Concatenation.{AllSaid, one_of_all}
 use Rattle.vc_accepted.proofs.Taken.{runs_too}
-use Rattle.vc_accepted.proofs.Planned.{kind_on, begins_good}
+use Rattle.vc_accepted.proofs.Processes.{kind_on, begins_good}
 
 push_if : (b : Bool) (k : Comm) (xs ys : List Comm) → (if b then k ∷ xs ++ ys else xs ++ ys) ≡ (if b then k ∷ xs else xs) ++ ys
 push_if true k xs ys = refl

@@ -7,10 +7,10 @@ use Rattle.vc_network.specs.Views.{Said, all_said}
 use Rattle.vc_process.specs.declared.value_kind.ValueKind.{ValueKind}
 use Rattle.vc_process.specs.Messages.{message}
 use Rattle.vc_occam.specs.Traces.{Comm, Out, In, Fin, Stp}
-use Rattle.vc_occam.proofs.Kinded.{value_as, carries}
+use Rattle.vc_occam.proofs.KindPreservation.{value_as, carries}
 use Rattle.vc_accepted.specs.OneList.{to_channel, on}
-use Rattle.vc_accepted.proofs.Stepped.{IsSaid}
-use Rattle.vc_accepted.proofs.Joined.{AllSaid}
+use Rattle.vc_accepted.proofs.StepTraces.{IsSaid}
+use Rattle.vc_accepted.proofs.Concatenation.{AllSaid}
 
 -- the message of a value of this kind
 abbrev Carries : ValueKind → List ℕ → Type 0

@@ -1,7 +1,7 @@
 -- A plan of version 2 leaves more room for headers, and nothing else is different.
 use Rattle.std.proofs.Common.{◌≡◌, ℕ, ◌≤◌, Bool, true, false, ◌==◌, refl, arith, if◌then◌else◌}
 use Rattle.vc_accepted.specs.NetworkOf.{network_of}
-use Rattle.vc_accepted.proofs.Accepting.{accepted}
+use Rattle.vc_accepted.proofs.AcceptedNetwork.{accepted}
 use Rattle.vc_network.specs.Actors.{Network}
 use Rattle.vc_network.specs.Network.{Actor}
 use Rattle.vc_network.specs.Plan.{Home, Way, Inside, home}

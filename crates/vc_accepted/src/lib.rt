@@ -26,14 +26,14 @@ ghost use Rattle.vc_accepted.specs.Threads.{ActsCanBeReplayed};
 ghost use Rattle.vc_accepted.specs.Versions.{VersionsRunAlike};
 
 /// The network of an accepted plan is accepted: what the laws say of accepted networks holds of it.
-#[tactic(auto, using(crate::proofs::Accepting::accepted))]
+#[tactic(auto, using(crate::proofs::AcceptedNetwork::accepted))]
 pub fn accepted_plans_are_accepted()
     ensures { (p : Plan) → plan.IsAccepted p → network.IsAccepted (network_of p) }
 {}
 
 /// The ends that a node of an accepted plan is given are its ends in the network. Each has a block and channels of its own,
 /// and sends by one of the node's four links.
-#[tactic(auto, using(crate::proofs::Giving::given_small))]
+#[tactic(auto, using(crate::proofs::NodeEnds::given_small))]
 pub fn nodes_are_given_their_ends()
     ensures ends { (p : Plan) (n : ℕ) → plan.IsAccepted p →
         ends_given (ends_of_node p n) ≡ network.ends (network_of p) n }
@@ -43,7 +43,7 @@ pub fn nodes_are_given_their_ends()
 {}
 
 /// The way that is found by an actor's link is the one way that goes out there, and its wire's other way is the one that comes in.
-#[tactic(auto, using(crate::proofs::Wired::ways_few))]
+#[tactic(auto, using(crate::proofs::WayPorts::ways_few))]
 pub fn ways_are_found_by_their_links()
     ensures out { (p : Plan) → plan.IsAccepted p → (actor link w : ℕ) →
         (outgoing p actor link ≡ Some w)
@@ -71,7 +71,7 @@ pub fn tables_fill_in_order()
 {}
 
 /// Where the ports of an accepted plan have ranks that rise along each dependency, so have the ways of its network.
-#[tactic(auto, using(crate::proofs::Ranked::ranked))]
+#[tactic(auto, using(crate::proofs::Ranks::ranked))]
 pub fn ranks_are_given()
     ensures { (p : Plan) → plan.IsAccepted p → plan_ranks.HasRanks p →
         HasRanks (network.net_of (network_of p)) }
@@ -111,7 +111,7 @@ pub fn acts_can_be_replayed()
 
 /// Whatever happened on an accepted plan's network, no buffer overflows: each token finds the place that was promised to it, and each
 /// FCT a credit of at most 8. And no link's end keeps more bytes than a packet may have.
-#[tactic(auto, using(crate::proofs::Bounded::credit_kept, crate::proofs::Bounded::limits_kept))]
+#[tactic(auto, using(crate::proofs::Bounds::credit_kept, crate::proofs::Bounds::limits_kept))]
 pub fn no_buffer_overflows()
     ensures credit { NetworksKeepCredit }
     ensures limits { NetworksKeepLimits }
@@ -119,7 +119,7 @@ pub fn no_buffer_overflows()
 
 /// Whatever happened on an accepted plan's network, each packet in a queue, on a way or in a switch belongs to a channel, and is no
 /// longer than the headers that may be on its way, of two bytes each, and 32 bytes of data.
-#[tactic(auto, using(crate::proofs::Bounded::owners_known, crate::proofs::Bounded::all_short))]
+#[tactic(auto, using(crate::proofs::Bounds::owners_known, crate::proofs::Bounds::all_short))]
 pub fn each_packet_has_its_channel()
     ensures owners { PacketsHaveOwners }
     ensures short { NoPacketIsLonger }
@@ -127,7 +127,7 @@ pub fn each_packet_has_its_channel()
 
 /// Whatever happened on an accepted plan's network, its packets are where a run of the packet machine leads. An event more is no step of
 /// it, one step, or two, by which a packet enters a switch and is bound at once.
-#[tactic(auto, using(crate::proofs::Bounded::packets_moved))]
+#[tactic(auto, using(crate::proofs::Bounds::packets_moved))]
 pub fn each_event_is_at_most_two_steps()
     ensures { PacketsAreMoved }
 {}

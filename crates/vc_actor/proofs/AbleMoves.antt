@@ -26,8 +26,8 @@ use Rattle.vc_vcp.specs.VcpView.{seen, ends_of}
 use Rattle.vc_vcp.specs.State.{State as Held, MayPut, MayGrant}
 use Rattle.vc_vcp.specs.Steps.{Taken}
 use Rattle.vc_vcp.specs.Steps as node
-use Rattle.vc_vcp.proofs.Enabling.{can_offer, offers_idle}
-use Rattle.vc_vcp.proofs.Passing.{less_put, less_grant}
+use Rattle.vc_vcp.proofs.Enablement.{can_offer, offers_idle}
+use Rattle.vc_vcp.proofs.Passes.{less_put, less_grant}
 use Rattle.vc_actor.specs.Private.Able.{HalfCan}
 use Rattle.vc_actor.specs.Able.{CanMove}
 use Rattle.vc_actor.specs.Inside.{IsOpen}

@@ -11,7 +11,7 @@ use Rattle.vc_occam.specs.Sites.{OwnSites}
 use Rattle.vc_occam.specs.States.{State, Waiting, input, output, waiting}
 use Rattle.vc_occam.specs.StepsInARow as occam
 use Rattle.vc_occam.proofs.Sites.{doing_keeps}
-use Rattle.vc_occam.proofs.Waiting.{waits_after}
+use Rattle.vc_occam.proofs.StepWaits.{waits_after}
 use Rattle.vc_process.proofs.Lists.{at_front}
 use Rattle.vc_process.specs.ProcessStep as step
 use Rattle.vc_process.specs.Usage.{Set}
@@ -21,7 +21,7 @@ use Rattle.vc_actor.specs.ActorView.{Acting, OfNode, process_of, views_of}
 use Rattle.vc_actor.specs.OfPlan.{AreInside, IsActorOf, IsNodeOf}
 use Rattle.vc_actor.specs.StepsInARow.{MakesSteps, RestsOn, still, on}
 use Rattle.vc_actor.specs.declared.node.Node.{Node}
-use Rattle.vc_actor.proofs.Halved as halved
+use Rattle.vc_actor.proofs.Halves as halved
 
 module _ (plan : Plan) (k : ℕ) (there : k < plan.nodes) (n : Node) where
   -- the node, with another process

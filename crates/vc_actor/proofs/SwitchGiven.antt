@@ -13,11 +13,11 @@ use Rattle.vc_plan.specs.Accepted.{IsAccepted}
 use Rattle.vc_plan.specs.Hops.{random_at}
 use Rattle.vc_plan.specs.Hops as hops
 use Rattle.vc_plan.specs.Limits.{wire_ok, ends_ok, switch_links_ok, range_ok, random_ok, links_differ}
-use Rattle.vc_plan.proofs.Limited.{passes}
+use Rattle.vc_plan.proofs.Limits.{passes}
 use Rattle.vc_accepted.specs.NetworkOf.{switch_of}
 use Rattle.vc_accepted.specs.NetworkOf as to
-use Rattle.vc_accepted.proofs.Limited.{kept}
-use Rattle.vc_accepted.proofs.Listed.{both}
+use Rattle.vc_accepted.proofs.Limits.{kept}
+use Rattle.vc_accepted.proofs.Elements.{both}
 use Rattle.vc_switch.specs.Opening.{IsRandomInput, range_given, plan_given}
 use Rattle.vc_switch.specs.Opening as opening
 use Rattle.vc_switch.specs.SwitchView.{seen}

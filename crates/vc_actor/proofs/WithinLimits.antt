@@ -9,8 +9,8 @@ use Rattle.vc_plan.specs.declared.node_plan.NodePlan.{NodePlan}
 use Rattle.vc_plan.specs.declared.plan.Plan.{Plan}
 use Rattle.vc_plan.specs.Accepted.{IsAccepted}
 use Rattle.vc_plan.specs.Limits.{kinds_of, parts_ok, process_names}
-use Rattle.vc_plan.proofs.Limited.{names-fit, passes}
-use Rattle.vc_accepted.proofs.Limited.{kept}
+use Rattle.vc_plan.proofs.Limits.{names-fit, passes}
+use Rattle.vc_accepted.proofs.Limits.{kept}
 
 few_parts : (node : NodePlan) → parts_ok node ≡ true → (number node.process).sites ≤ 65536
 few_parts node h = grind (arith, nat_tests)

@@ -1,3 +1,3 @@
 pub mod UnderWay
-pub mod Carrying
-pub mod Logging
+pub mod WholeMessages
+pub mod Logs

@@ -4,7 +4,7 @@ use Rattle.std.proofs.lemmas.List.{drop_all}
 use Rattle.vc_packets.specs.declared.packet.Packet.{Packet}
 use Rattle.vc_packets.specs.Spellings.{piece_packet}
 use Rattle.vc_packets.specs.Pieces.{Pieces, piece_count}
-use Rattle.vc_packets.proofs.Cutting.{has_pieces, length-pieces}
+use Rattle.vc_packets.proofs.PieceLists.{has_pieces, length-pieces}
 use Rattle.vc_blocks.specs.Outputs.{unacked_of, IsUnderWay}
 use Rattle.vc_blocks.specs.Acknowledges.{later_than, advanced}
 use Rattle.vc_blocks.specs.declared.out_half.Advance.TheVariants.{More, Finished}

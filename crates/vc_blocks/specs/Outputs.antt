@@ -1,7 +1,7 @@
 -- What an output half keeps of a message: the message, how many pieces it has, and the number of the piece under way.
 use Rattle.std.specs.Prelude.{◌≡◌, ℕ, ◌<◌, Bool, true, false, List, [], length, drop}
 use Rattle.vc_packets.specs.Pieces.{piece_count}
-use Rattle.vc_packets.proofs.Cutting.{has_pieces}
+use Rattle.vc_packets.proofs.PieceLists.{has_pieces}
 
 -- the pieces not yet acknowledged
 abbrev pub unacked_of : Bool → List ℕ → ℕ → List (List ℕ)

@@ -5,7 +5,7 @@ use Rattle.std.proofs.lemmas.List.{length-append}
 use Rattle.std.proofs.lemmas.Option.{slice_get_within}
 use Rattle.std.specs.Int.{bit_at}
 use Rattle.vc_tokens.specs.Tokens.{Token}
-use Rattle.vc_vcp.proofs.Placed.{place-set_same, place-set_other}
+use Rattle.vc_vcp.proofs.ListWrites.{place-set_same, place-set_other}
 use Rattle.vc_core.specs.Awake.{StaysAwake, TokenCame}
 use Rattle.vc_core.specs.PossibleEvents.{CanHappen}
 use Rattle.vc_core.specs.Private.Lines.{LeadsTo}
@@ -18,9 +18,9 @@ use Rattle.vc_actor.specs.ActorView.{Acting}
 use Rattle.vc_actor.specs.declared.act.Act.{Act}
 use Rattle.vc_actor.specs.declared.act.Act.TheVariants.{Proc, Take, Put, Route, Fct, Pass}
 use Rattle.vc_plan.specs.declared.plan.Plan.{Plan}
-use Rattle.vc_core.proofs.Enabled.{can_take, comes_to, happens}
+use Rattle.vc_core.proofs.Enablement.{can_take, comes_to, happens}
 use Rattle.vc_core.proofs.Quiet.{quiet_after}
-use Rattle.vc_core.proofs.Turning.{takes}
+use Rattle.vc_core.proofs.Turns.{takes}
 
 -- Whoever is not awake rests.
 

@@ -5,7 +5,7 @@ use Rattle.std.proofs.lemmas.List.{length-set}
 use Rattle.std.proofs.lemmas.Nat.Bits.{bit_at_set_same, bit_at_set_other}
 use Rattle.std.proofs.lemmas.Option.{slice_get-get_or, slice_get_within, get_or_from_slice_get, unwrap_or-slice_get}
 use Rattle.std.specs.Int.{bit_at, w32}
-use Rattle.vc_vcp.proofs.Placed.{place-set_same, place-set_other}
+use Rattle.vc_vcp.proofs.ListWrites.{place-set_same, place-set_other}
 use Rattle.vc_core.specs.Fronts.{bit_of}
 use Rattle.vc_core.specs.Private.Fronts.{Marked}
 

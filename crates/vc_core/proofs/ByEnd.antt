@@ -6,7 +6,7 @@ use Rattle.std.proofs.lemmas.Option.{slice_get-map, get_or_from_slice_get}
 use Rattle.std.specs.List.{AllByRecursion}
 use Rattle.std.specs.Option.{option_map}
 use Rattle.vc_accepted.specs.NetworkOf.{wire_of}
-use Rattle.vc_accepted.proofs.Wired.{outgoing_is}
+use Rattle.vc_accepted.proofs.WayPorts.{outgoing_is}
 use Rattle.vc_plan.specs.Accepted.{IsAccepted}
 use Rattle.vc_plan.specs.declared.plan.Plan.{Plan}
 use Rattle.vc_tokens.specs.Tokens.{Token}
@@ -17,10 +17,10 @@ use Rattle.vc_core.specs.Private.ByEnd.{AreApart, ByEnd, Leads, place_of, with_l
 use Rattle.vc_core.specs.Private.Wiring.{AreEnds, AreFar, far_end_of}
 use Rattle.vc_core.specs.Wiring.{AreWaysAt, Comes, in_at, out_at, there}
 use Rattle.vc_core.specs.declared.ends.End.{End}
-use Rattle.vc_core.proofs.Enabled.{has}
-use Rattle.vc_core.proofs.Happening.{written_back}
-use Rattle.vc_core.proofs.Leading.{in_out, out_within}
-use Rattle.vc_core.proofs.Lined.{comes_no_more, comes_now, comes_yet, in_few}
+use Rattle.vc_core.proofs.Enablement.{has}
+use Rattle.vc_core.proofs.Events.{written_back}
+use Rattle.vc_core.proofs.WaysOut.{in_out, out_within}
+use Rattle.vc_core.proofs.LineBits.{comes_no_more, comes_now, comes_yet, in_few}
 
 -- the ways whose ends have other places stay
 others_stay : (ends : List End) (lines : List (List Token)) (p : ℕ) (ts : List Token) → ((v : ℕ) (f : End) → slice_get ends v ≡ Some f → place_of f ≢ p) →

@@ -5,8 +5,8 @@ use Rattle.std.specs.List.{AllByRecursion}
 use Rattle.vc_accepted.specs.NetworkOf.{network_of}
 use Rattle.vc_accepted.specs.Begin.{begin_of}
 use Rattle.vc_accepted.specs.Process.{does}
-use Rattle.vc_accepted.proofs.Accepting.{accepted}
-use Rattle.vc_accepted.proofs.Ranked.{ranked}
+use Rattle.vc_accepted.proofs.AcceptedNetwork.{accepted}
+use Rattle.vc_accepted.proofs.Ranks.{ranked}
 use Rattle.vc_network.specs.Still.{IsNoMove}
 use Rattle.vc_network.proofs.Descent.{ends}
 use Rattle.vc_switch.specs.Waiting.{Wormhole}

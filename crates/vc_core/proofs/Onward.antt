@@ -8,18 +8,18 @@ use Rattle.vc_labels.specs.declared.action.Action.TheVariants.{Out}
 use Rattle.vc_labels.specs.Interval.{action_for}
 use Rattle.vc_accepted.specs.NetworkOf.{network_of}
 use Rattle.vc_accepted.specs.ActorWays.{outgoing}
-use Rattle.vc_accepted.proofs.Accepting.{accepted}
-use Rattle.vc_accepted.proofs.Wired.{outgoing_is}
+use Rattle.vc_accepted.proofs.AcceptedNetwork.{accepted}
+use Rattle.vc_accepted.proofs.WayPorts.{outgoing_is}
 use Rattle.vc_switch.specs.State.{State as SwitchState, plan_of}
 use Rattle.vc_switch.specs.Switch as switch
 use Rattle.vc_actor.specs.Acts.{port}
 use Rattle.vc_actor.specs.Private.Parts.{switch_at}
 use Rattle.vc_core.specs.State.{State, IsNetworkOf}
 use Rattle.vc_core.specs.Wiring.{out_at}
-use Rattle.vc_core.proofs.Enabled.{real_out}
-use Rattle.vc_core.proofs.Leading.{few_actors}
-use Rattle.vc_core.proofs.Placing.{switch_plan_is, no_switch_there, no_switch_plan}
-use Rattle.vc_actor.proofs.Switching.{port_is}
+use Rattle.vc_core.proofs.Enablement.{real_out}
+use Rattle.vc_core.proofs.WaysOut.{few_actors}
+use Rattle.vc_core.proofs.PortPlaces.{switch_plan_is, no_switch_there, no_switch_plan}
+use Rattle.vc_actor.proofs.SwitchCalls.{port_is}
 
 -- nothing leaves a switch that is not there
 pub no_way : (p : Plan) (s : State) (k : ℕ) (b : List ℕ) → IsNetworkOf p s → switch_at (slice_get s.actors (s.nodes + k)) ≡ None → (out : ℕ) (left : List ℕ) → BodyLeaves (net_of (network_of p)) k b out left → ⊥

@@ -9,7 +9,7 @@ use Rattle.vc_plan.specs.declared.plan.Plan.{Plan}
 use Rattle.vc_core.specs.Private.State.{with_actor}
 use Rattle.vc_core.specs.State.{State, shown, IsNetworkOf}
 use Rattle.vc_core.specs.StepsInARow.{MakesSteps}
-use Rattle.vc_core.proofs.Happening.{each_actor, state_at, states}
+use Rattle.vc_core.proofs.Events.{each_actor, state_at, states}
 
 pub actor_steps : (p : Plan) (s : State) (k m : ℕ) (a b : Acting) → IsNetworkOf p s → slice_get s.actors k ≡ Some a → actor.MakesSteps (network_of p) k m a b → MakesSteps p k m s (with_actor s k b)
 actor_steps p s k m a b is here made =

@@ -6,12 +6,12 @@ use Rattle.std.specs.List.{AllByRecursion, Contains}
 use Rattle.vc_packets.specs.declared.packet.Packet.{Packet}
 use Rattle.vc_tokens.specs.Tokens.{Token}
 use Rattle.vc_accepted.specs.NetworkOf.{network_of, wire_of, port_at}
-use Rattle.vc_accepted.proofs.Accepting.{accepted}
-use Rattle.vc_accepted.proofs.Crossing.{wire_is}
-use Rattle.vc_accepted.proofs.Listed.{there}
-use Rattle.vc_accepted.proofs.Ported.{side_of}
-use Rattle.vc_accepted.proofs.Ranked.{ranked}
-use Rattle.vc_accepted.proofs.Wired.{wired}
+use Rattle.vc_accepted.proofs.AcceptedNetwork.{accepted}
+use Rattle.vc_accepted.proofs.Across.{wire_is}
+use Rattle.vc_accepted.proofs.Elements.{there}
+use Rattle.vc_accepted.proofs.Ports.{side_of}
+use Rattle.vc_accepted.proofs.Ranks.{ranked}
+use Rattle.vc_accepted.proofs.WayPorts.{wired}
 use Rattle.vc_machine.specs.Paths.{Port, AtNode, AtSwitch, Channel}
 use Rattle.vc_machine.specs.Links.{Tokens, no_tokens}
 use Rattle.vc_machine.specs.Machine.{ChanState}
@@ -22,7 +22,7 @@ use Rattle.vc_machine.specs.Still.{MovesTokens, IsStill, IsClear}
 use Rattle.vc_machine.specs.TokenMachine as tok
 use Rattle.vc_machine.specs.TokenMachine.{TokenEvent, TokenStep}
 use Rattle.vc_machine.proofs.Labels.{Phase, Calm, Coming, Waiting, Returning, PhaseFits}
-use Rattle.vc_machine.proofs.Owned.{all_both}
+use Rattle.vc_machine.proofs.Ownership.{all_both}
 use Rattle.vc_machine.proofs.Still.{still_is_clear}
 use Rattle.vc_network.specs.Actors.{Network}
 use Rattle.vc_network.specs.Network.{Actor, begins}
@@ -31,10 +31,10 @@ use Rattle.vc_network.specs.Plan as network
 use Rattle.vc_network.specs.Views.{vcp_of, switch_of, vcps, switches, sink_node, queue_at, in_halves, everywhere}
 use Rattle.vc_network.proofs.Able.{node_passes, node_puts, node_grants, switch_passes, switch_puts, switch_routes, switch_grants}
 use Rattle.vc_network.proofs.Backs.{back_real, back_out}
-use Rattle.vc_network.proofs.Fitting.{has_headers}
+use Rattle.vc_network.proofs.PacketSizes.{has_headers}
 use Rattle.vc_network.proofs.Main.{Ran, good_start, ran, same_ways, packets}
 use Rattle.vc_network.proofs.Replays.{replayed}
-use Rattle.vc_network.proofs.Showing.{wires, carriers}
+use Rattle.vc_network.proofs.TokenViews.{wires, carriers}
 use Rattle.vc_network.proofs.Steps.{Good}
 use Rattle.vc_network.proofs.Wiring.{net_accepted, carried}
 use Rattle.vc_plan.specs.Accepted.{IsAccepted, port_of}
@@ -57,16 +57,16 @@ use Rattle.vc_actor.specs.OfPlan.{IsSwitchOf}
 use Rattle.vc_actor.specs.ActorView.{Acting, OfNode, OfSwitch}
 use Rattle.vc_actor.specs.declared.act.Act.TheVariants as act
 use Rattle.vc_actor.specs.declared.node.Node.{Node}
-use Rattle.vc_actor.proofs.Linking as node
-use Rattle.vc_actor.proofs.Switching as switching
+use Rattle.vc_actor.proofs.LinkTokens as node
+use Rattle.vc_actor.proofs.SwitchCalls as switching
 use Rattle.vc_core.specs.PossibleEvents.{CanHappen}
 use Rattle.vc_core.specs.PacketPlace.{IsUnfinished}
 use Rattle.vc_core.specs.Replay.{Reached}
 use Rattle.vc_core.specs.State.{State, shown, event_of, IsNetworkOf}
 use Rattle.vc_core.specs.Still.{OnlyMoves, NoMove, IsHeld, AllIsHeld, IsUnasked, OnlyProcessesHold}
 use Rattle.vc_core.specs.declared.event.Event.{Event}
-use Rattle.vc_core.proofs.Enabled.{enables, has, has_front, has_way, can_take, real_out, few_out, one_number}
-use Rattle.vc_core.proofs.Happening.{state_at}
+use Rattle.vc_core.proofs.Enablement.{enables, has, has_front, has_way, can_take, real_out, few_out, one_number}
+use Rattle.vc_core.proofs.Events.{state_at}
 
 -- a node of a wire is one of the plan
 node_at : (p : Plan) (s : Spot) (link n l : ℕ) → port_at s link ≡ AtNode n l → spot_there p s ≡ true → n < length p.nodes

@@ -1,2 +1,2 @@
-pub mod Crediting
+pub mod CreditSum
 pub mod Fronts

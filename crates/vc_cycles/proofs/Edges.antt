@@ -12,7 +12,7 @@ use Rattle.vc_plan.specs.declared.port.Port.{Port}
 use Rattle.vc_plan.proofs.Members.{In, In-left, In-right, In-cases}
 use Rattle.vc_cycles.specs.Private.Graph.{AllRise, Gains, GainEdge, HasEdge, IsRising, port_number, row, items_of}
 use Rattle.vc_cycles.proofs.Among.{in_contains, contains_in, read_at}
-use Rattle.vc_cycles.proofs.Numbered.{number_small}
+use Rattle.vc_cycles.proofs.PortNumbers.{number_small}
 
 -- what is put into a list
 parts : (xs : List ℕ) (i y : ℕ) → In y xs → In y (take i xs) ⊎ In y (drop i xs)

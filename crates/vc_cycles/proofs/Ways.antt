@@ -9,9 +9,9 @@ use Rattle.vc_plan.specs.Dependencies.{Chain, IsCycle, IsNotAfter}
 use Rattle.vc_cycles.specs.Private.Graph.{AreDependencies, HasEdge, port_at, port_number}
 use Rattle.vc_cycles.specs.Private.Round.{InOrder, IsAway, IsEarlier, IsFoundFrom, IsLeastRound, PointsBack, Searched, found_at, way, way_to}
 use Rattle.vc_cycles.specs.declared.round.Found.{Found}
-use Rattle.vc_cycles.proofs.Numbered.{number_after, number_at, number_back}
+use Rattle.vc_cycles.proofs.PortNumbers.{number_after, number_at, number_back}
 use Rattle.vc_cycles.proofs.Orders.{IsBefore, is_before_first, is_before_last, is_before_more, not_after_before, not_after_behind, not_after_itself, not_after_longer, not_after_more, not_after_on, number_before}
-use Rattle.vc_cycles.proofs.Rounding.{ChainFrom, chain_last, chain_more, points_back}
+use Rattle.vc_cycles.proofs.CycleSearch.{ChainFrom, chain_last, chain_more, points_back}
 
 append_nil : (xs : List Port) → xs ++ [] ≡ xs
 append_nil [] = refl

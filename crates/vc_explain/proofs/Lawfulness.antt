@@ -17,8 +17,8 @@ use Rattle.vc_explain.specs.declared.wanted.Wanted.TheVariants as wanted
 use Rattle.vc_explain.specs.Laws.{NothingOfLawful}
 use Rattle.vc_explain.specs.Offences.{both, channel_clash, clash, first_beside, first_in, in_par, in_part, index_change, offence, own_offence, variable_clash, with_another}
 use Rattle.vc_explain.specs.Uses.{first_of, place, within, within_branches, within_guards, within_parts}
-use Rattle.vc_explain.proofs.Covered.{both_or, some_append, some_or}
-use Rattle.vc_explain.proofs.Offending.{Has, same_number}
+use Rattle.vc_explain.proofs.Coverage.{both_or, some_append, some_or}
+use Rattle.vc_explain.proofs.Offences.{Has, same_number}
 use Rattle.vc_explain.proofs.Sets.{change_place, input_place, output_place, use_place}
 
 none_of : {B : Type 0} (o : Option B) → is_some o ≡ false → o ≡ None

@@ -12,7 +12,7 @@ use Rattle.vc_explain.specs.declared.offence.PartPlace.{PartPlace}
 use Rattle.vc_explain.specs.declared.wanted.Wanted.{Wanted}
 use Rattle.vc_explain.specs.Offences.{first_beside, first_in, in_par, in_part}
 use Rattle.vc_explain.specs.Uses.{Use, branch_uses, change, expression, first_marked, first_of, guard_uses, input, items_at, place, place_if, wants}
-use Rattle.vc_explain.proofs.Located.{behind_branch, behind_guard, behind_part}
+use Rattle.vc_explain.proofs.Locations.{behind_branch, behind_guard, behind_part}
 use Rattle.vc_explain.proofs.Sought.{Opens, first_append}
 
 marked_one : (b : Bool) (at : List Step) (more : Option (List Step)) → option_or (if b then Some at else None) more ≡ (if b then Some at else more)

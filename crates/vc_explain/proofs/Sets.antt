@@ -7,7 +7,7 @@ use Rattle.vc_process.specs.Usage.{changes, changes_all, changes_branches, chang
 use Rattle.vc_reader.specs.declared.path.Step.{Step}
 use Rattle.vc_explain.specs.declared.wanted.Wanted.TheVariants as wanted
 use Rattle.vc_explain.specs.Uses.{place}
-use Rattle.vc_explain.proofs.Covered.{Covers, covered, or_false}
+use Rattle.vc_explain.proofs.Coverage.{Covers, covered, or_false}
 
 -- one thing or another
 either : (a b : Bool) → (a || b) ≡ (a || (b || false))

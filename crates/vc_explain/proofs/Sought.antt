@@ -1,7 +1,7 @@
 -- Parts, branches and guards, sought through from the first on.
 use Rattle.std.proofs.Common.{◌≡◌, ℕ, suc, ◌+◌, ◌<◌, ◌≤◌, refl, ap, sym, ◌∙◌, List, [], ◌∷◌, ◌++◌, map, length, get_or, drop, add-one, Option, Some, None, Result, Ok, Err, IfOk}
 use Rattle.std.specs.Option.{option_or}
-use Rattle.vc_process.proofs.Reaching.{drop_at, drop_all}
+use Rattle.vc_process.proofs.Walks.{drop_at, drop_all}
 use Rattle.vc_explain.specs.Uses.{first_of}
 
 pub or_assoc : {B : Type 0} (x y z : Option B) → option_or (option_or x y) z ≡ option_or x (option_or y z)

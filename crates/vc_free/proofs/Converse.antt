@@ -3,14 +3,14 @@
 use Rattle.std.proofs.Common.{◌≡◌, ℕ, zero, suc, ◌+◌, ◌≤◌, ◌<◌, Bool, true, false, refl, sym, ap, subst, ◌∙◌, List, [], ◌∷◌, length, map, get_or, slice_get, Some, inl, inr, arith, ◌==◌, nat_eq, eq-eqb, if◌then◌else◌}
 use Rattle.std.proofs.lemmas.Bool.{cases_lt}
 use Rattle.vc_accepted.proofs.Main.{all_told}
-use Rattle.vc_accepted.proofs.Planned.{named}
+use Rattle.vc_accepted.proofs.Processes.{named}
 use Rattle.vc_accepted.specs.Begin.{node_plan, no_node, begin_of}
 use Rattle.vc_accepted.specs.NetworkOf.{network_of, home_in}
 use Rattle.vc_accepted.specs.OneList.{by, on, to_channel, IsTold}
 use Rattle.vc_accepted.specs.Process.{Process}
-use Rattle.vc_free.proofs.Doing.{do_all}
-use Rattle.vc_free.proofs.Placing.{arrived}
-use Rattle.vc_free.proofs.Splitting.{empty, Split, split}
+use Rattle.vc_free.proofs.Atomics.{do_all}
+use Rattle.vc_free.proofs.Places.{arrived}
+use Rattle.vc_free.proofs.PartTraces.{empty, Split, split}
 use Rattle.vc_free.specs.Converse.{NetworkRunsIt}
 use Rattle.vc_machine.specs.Rendezvous as rendezvous
 use Rattle.vc_machine.specs.Rendezvous.{View, DoesAll, part as part_on, nothing_yet}

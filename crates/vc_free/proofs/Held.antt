@@ -3,13 +3,13 @@ use Rattle.std.proofs.Common.{◌≡◌, ℕ, zero, suc, ◌<◌, ◌≤◌, Boo
 use Rattle.std.proofs.lemmas.Bool.{cases_lt}
 use Rattle.std.proofs.lemmas.List.Elements.{All-from_recursion, All-contains}
 use Rattle.std.specs.List.{AllByRecursion, Contains}
-use Rattle.vc_accepted.proofs.Accepting.{accepted}
+use Rattle.vc_accepted.proofs.AcceptedNetwork.{accepted}
 use Rattle.vc_accepted.specs.NetworkOf.{network_of}
 use Rattle.vc_accepted.specs.Process.{Process}
 use Rattle.vc_core.specs.Still.{IsHeld, IsUnasked}
 use Rattle.vc_free.specs.Delivery.{in_half, IsThrough}
 use Rattle.vc_machine.proofs.Labels.{Phase, Calm, Coming, Waiting, Returning, PhaseFits}
-use Rattle.vc_machine.proofs.Owned.{all_both}
+use Rattle.vc_machine.proofs.Ownership.{all_both}
 use Rattle.vc_machine.specs.Links.{Tokens}
 use Rattle.vc_machine.specs.Machine.{ChanState}
 use Rattle.vc_machine.specs.Paths.{Port, AtNode, AtSwitch, Channel}
@@ -18,7 +18,7 @@ use Rattle.vc_machine.specs.Places.{Place, Queue, OnWire, Inside, Held, BelongsT
 use Rattle.vc_machine.specs.PacketsOfTokens.{read, passed_on, input_of, seen}
 use Rattle.vc_machine.specs.Still.{IsClear}
 use Rattle.vc_network.proofs.Main.{same_ways, packets, faithful}
-use Rattle.vc_network.proofs.Showing.{carriers}
+use Rattle.vc_network.proofs.TokenViews.{carriers}
 use Rattle.vc_network.proofs.Steps.{Good}
 use Rattle.vc_network.proofs.Wiring.{carried}
 use Rattle.vc_network.specs.Actors.{Network}

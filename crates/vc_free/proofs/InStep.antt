@@ -10,7 +10,7 @@ use Rattle.vc_process.specs.ProcessStep.{Offers as Outputs, Chooses, Wants as In
 use Rattle.vc_occam.specs.Laws.{IsKept, IsAdded, IsRemoved, IsOutputOn, IsInputOn, WaitsAfter}
 use Rattle.vc_occam.proofs.GoingOn.{finishes_on, receives_on}
 use Rattle.vc_occam.proofs.Insertion.{inserted_or}
-use Rattle.vc_occam.proofs.Waiting.{waits_after}
+use Rattle.vc_occam.proofs.StepWaits.{waits_after}
 use Rattle.vc_vcp.specs.Carrier.{End, Ends, OutHalf, InHalf, Carrier}
 use Rattle.vc_vcp.specs.Links.{Vcp, Passes, passes_byte, drops_byte, passes_mark, unqueued}
 use Rattle.vc_vcp.specs.Links as links

@@ -1,14 +1,14 @@
 -- A free network delivers by itself: as long as a token can move, it does, and there is a bound on how often.
 use Rattle.std.proofs.Common.{◌≡◌, ◌⊎◌, ℕ, zero, suc, ◌<◌, ◌≤◌, inl, inr, [], ◌∷◌, length, refl, sym, subst, arith}
 use Rattle.std.proofs.lemmas.List.{length-map}
-use Rattle.vc_accepted.proofs.Accepting.{accepted}
-use Rattle.vc_accepted.proofs.Ranked.{ranked}
+use Rattle.vc_accepted.proofs.AcceptedNetwork.{accepted}
+use Rattle.vc_accepted.proofs.Ranks.{ranked}
 use Rattle.vc_accepted.specs.Begin.{begin_of}
 use Rattle.vc_accepted.specs.NetworkOf.{network_of, home_in}
 use Rattle.vc_accepted.specs.Process.{Process, does}
 use Rattle.vc_free.proofs.Held.{all_held, ways_empty, held_unasked, asked_through}
-use Rattle.vc_free.proofs.Lifting.{Moved, lifted}
-use Rattle.vc_free.proofs.Placing.{Arrived, happened, arrived}
+use Rattle.vc_free.proofs.TokenEvents.{Moved, lifted}
+use Rattle.vc_free.proofs.Places.{Arrived, happened, arrived}
 use Rattle.vc_free.proofs.Progress.{Progress, goes_on}
 use Rattle.vc_free.specs.Delivery.{HasDelivered, Delivers, FreeNetworksDeliver}
 use Rattle.vc_machine.proofs.Still.{Standing, stands, still_is_clear}
@@ -18,9 +18,9 @@ use Rattle.vc_machine.specs.Still.{IsStill, IsClear}
 use Rattle.vc_machine.specs.TokenMachine.{TokenRun}
 use Rattle.vc_network.proofs.Backs.{back_real}
 use Rattle.vc_network.proofs.Descent.{ends}
-use Rattle.vc_network.proofs.Fitting.{has_headers}
+use Rattle.vc_network.proofs.PacketSizes.{has_headers}
 use Rattle.vc_network.proofs.Nexts.{next}
-use Rattle.vc_network.proofs.Showing.{wires}
+use Rattle.vc_network.proofs.TokenViews.{wires}
 use Rattle.vc_network.proofs.Wiring.{net_accepted}
 use Rattle.vc_network.specs.Actors.{Network, ActBy}
 use Rattle.vc_network.specs.EnabledEvents.{IsEnabled}

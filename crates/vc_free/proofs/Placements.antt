@@ -6,7 +6,7 @@ use Rattle.vc_accepted.specs.NetworkOf.{network_of}
 use Rattle.vc_accepted.specs.OneList.{by}
 use Rattle.vc_accepted.specs.Process.{Process}
 use Rattle.vc_free.proofs.Converse.{ended_done}
-use Rattle.vc_free.proofs.Doing.{do_all}
+use Rattle.vc_free.proofs.Atomics.{do_all}
 use Rattle.vc_free.specs.Placements.{IsOtherPlacement, FreePlacementsDoTheSame}
 use Rattle.vc_network.specs.Actors.{Network}
 use Rattle.vc_network.specs.Network.{Node, Actor, IsNode}

@@ -22,10 +22,10 @@ use Rattle.vc_machine.specs.Dependencies.{Depends, HasRanks}
 use Rattle.vc_machine.specs.Still.{MovesTokens, IsStill, IsClear, BackStays}
 use Rattle.vc_machine.proofs.Ways.{front_of}
 use Rattle.vc_machine.proofs.Moves.{drawn_on, has_way}
-use Rattle.vc_machine.proofs.Spelling.{fcts-append, mark_in_bytes}
+use Rattle.vc_machine.proofs.Spellings.{fcts-append, mark_in_bytes}
 use Rattle.vc_machine.proofs.TokenCover.{onward}
 use Rattle.vc_machine.proofs.Heads.{headed_is, inside_node, inside_unmarked, inside_marked, longer, no_group, same_switch, group_of}
-use Rattle.vc_machine.proofs.Seeing.{front_packet}
+use Rattle.vc_machine.proofs.ViewChanges.{front_packet}
 use Rattle.vc_machine.proofs.Ahead.{Sending, queued, bound}
 use Rattle.vc_machine.proofs.Cover.{spelled_behind}
 use Rattle.vc_machine.proofs.Still.{Standing, taken_whole, depends, bounded}

@@ -15,14 +15,14 @@ use Rattle.vc_occam.specs.States.{State, StepsTo, meeting, output, waiting}
 use Rattle.vc_occam.specs.Traces.{Comm, Out, Fin, In, Stp}
 use Rattle.vc_occam.specs.declared.answer.Answer.TheVariants.{Nothing, Waits as Waiting}
 use Rattle.vc_occam.specs.declared.moves.Move.TheVariants as move
-use Rattle.vc_occam.proofs.Commuting.{after_output, before_end, swap}
+use Rattle.vc_occam.proofs.Commutation.{after_output, before_end, swap}
 use Rattle.vc_occam.proofs.Determinate.{finishing_one}
 use Rattle.vc_occam.proofs.Insertion.{is_inserted}
-use Rattle.vc_occam.proofs.Keeping.{lawful, step_uses}
-use Rattle.vc_occam.proofs.Listing.{want_own, choose_own}
+use Rattle.vc_occam.proofs.Preservation.{lawful, step_uses}
+use Rattle.vc_occam.proofs.SiteMoves.{want_own, choose_own}
 use Rattle.vc_occam.proofs.Made.{finishes as ends_there}
-use Rattle.vc_occam.proofs.Waiting.{step_waits}
-use Rattle.vc_occam.proofs.Weaving.{offers, finishes, takes, chooses, stops, Run, still, quiet, tells, then_is, turns_is, index_is, left_is, right_is}
+use Rattle.vc_occam.proofs.StepWaits.{step_waits}
+use Rattle.vc_occam.proofs.Interleavings.{offers, finishes, takes, chooses, stops, Run, still, quiet, tells, then_is, turns_is, index_is, left_is, right_is}
 
 left_or : (a b : Bool) → a ≡ true → (a || b) ≡ true
 left_or a b e = ap (λ z. z || b) e

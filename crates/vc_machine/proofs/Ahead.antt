@@ -11,7 +11,7 @@ use Rattle.vc_credit.specs.Ends.{Sender}
 use Rattle.vc_machine.specs.Links.{Receiver, Tokens}
 use Rattle.vc_switch.specs.Switch.{headed}
 use Rattle.vc_machine.specs.View.{MayDraw}
-use Rattle.vc_machine.proofs.Spelling.{bytes-append, mark_in_bytes, same_start}
+use Rattle.vc_machine.proofs.Spellings.{bytes-append, mark_in_bytes, same_start}
 use Rattle.vc_machine.proofs.Update.{Changed, every}
 use Rattle.vc_machine.proofs.Heads.{not_empty, no_header}
 

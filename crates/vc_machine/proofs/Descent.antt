@@ -16,7 +16,7 @@ use Rattle.vc_machine.specs.TokenMachine.{TokenEvent, Proc, Take, Pass, Put, Put
 use Rattle.vc_machine.specs.Laws.{HasHeaders}
 use Rattle.vc_machine.specs.Dependencies.{Depends}
 use Rattle.vc_machine.specs.Still.{MovesTokens, BackStays, RunsEnd}
-use Rattle.vc_machine.proofs.Fitting.{spelled_length, leaves_shorter}
+use Rattle.vc_machine.proofs.PacketSizes.{spelled_length, leaves_shorter}
 use Rattle.vc_machine.proofs.Update.{put-same, put-other}
 use Rattle.vc_machine.proofs.Still.{Standing, bounded, stands}
 use Rattle.vc_machine.proofs.Dependency.{rising}

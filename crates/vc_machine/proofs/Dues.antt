@@ -15,7 +15,7 @@ use Rattle.vc_credit.specs.Ends.{Sender}
 use Rattle.vc_machine.specs.Paths.{Carries, Channel, Net, IsAccepted}
 use Rattle.vc_machine.specs.Machine.{State, ChanState, store, advance, IsTaken, stores, holds, advances, Reaches, taken, stray}
 use Rattle.vc_machine.specs.Laws.{HasHeaders}
-use Rattle.vc_machine.proofs.Fitting.{spelled_length}
+use Rattle.vc_machine.proofs.PacketSizes.{spelled_length}
 use Rattle.vc_machine.proofs.Labels.{Phase, Calm, Coming, Waiting, Returning, LeftAfter, PhaseFits, Inv}
 use Rattle.vc_machine.proofs.Update.{put-same}
 use Rattle.vc_machine.proofs.Weights.{offered_size, come_size, due, queues, dues, queued_weight, due_less, due_same}

@@ -15,10 +15,10 @@ use Rattle.vc_machine.specs.View.{MayDraw, nothing, begun, Inside, without_mark,
 use Rattle.vc_machine.specs.Laws.{Ranges, WithinLimit, PutsGoOn, IsSound}
 use Rattle.vc_machine.specs.Private.Laws.{IsLimit, AllFit}
 use Rattle.vc_machine.proofs.Ahead.{Sending, Ahead, within_body, within_bytes}
-use Rattle.vc_machine.proofs.Starting.{start_switch, node_next, switch_next, switch_last}
-use Rattle.vc_machine.proofs.Keeping.{step_ahead, nothing_ahead}
-use Rattle.vc_machine.proofs.Refined.{as_run, run_joined}
-use Rattle.vc_machine.proofs.Binding.{step_bindings, no_bindings}
+use Rattle.vc_machine.proofs.PacketStarts.{start_switch, node_next, switch_next, switch_last}
+use Rattle.vc_machine.proofs.AheadSteps.{step_ahead, nothing_ahead}
+use Rattle.vc_machine.proofs.StepRefinement.{as_run, run_joined}
+use Rattle.vc_machine.proofs.Bindings.{step_bindings, no_bindings}
 use Rattle.vc_machine.proofs.Refinement.{step_view, no_view}
 
 part_short : (a b c : List ℕ) (limit : ℕ) → c ≡ a ++ b → length c ≤ limit → length a ≤ limit

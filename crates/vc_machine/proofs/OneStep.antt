@@ -8,7 +8,7 @@ use Rattle.vc_switch.specs.Forward.{behind}
 use Rattle.vc_machine.specs.Machine.{State, Input, Full, set_way, set_chan, enqueue, accept, advance, emptied, carry, BodyLeaves, Event, Offer, Want, Choose, Stop, Send, Receive, Enter, Route, Leave, IsPieceFor, IsTaken, stores, holds, advances, Reaches, taken, stray, Settles, fills, lost, Fetches, Wants, fetches, waits, Step}
 use Rattle.vc_machine.proofs.NodeSteps.{same_piece, same_ack, not_both}
 use Rattle.vc_machine.proofs.Cover.{cover, left_same}
-use Rattle.vc_packets.proofs.Cutting.{pieces_same}
+use Rattle.vc_packets.proofs.PieceLists.{pieces_same}
 
 link_of : (n i j : ℕ) → AtSwitch n i ≡ AtSwitch n j → i ≡ j
 link_of n i j e = cc

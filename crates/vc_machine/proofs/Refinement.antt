@@ -9,12 +9,12 @@ use Rattle.vc_machine.specs.View.{TokenView, nothing, without_mark, Bindings, At
 use Rattle.vc_machine.specs.Private.View.{Credited}
 use Rattle.vc_machine.specs.Laws.{Ranges, StepsAreSteps, IsReached, RunsAreRuns, BuffersHold}
 use Rattle.vc_machine.proofs.TokenNodes.{proc_alike}
-use Rattle.vc_machine.proofs.Seeing.{takes_view, grants_view, same_nodes, framed_view}
-use Rattle.vc_machine.proofs.Refined.{as_run, run_joined}
-use Rattle.vc_machine.proofs.Passing.{passes_view}
-use Rattle.vc_machine.proofs.Putting.{puts_view, binds_view}
-use Rattle.vc_machine.proofs.Binding.{step_bindings, no_bindings}
-use Rattle.vc_machine.proofs.Crediting.{step_counts, no_counts, within_credit, place_kept, credit_low}
+use Rattle.vc_machine.proofs.ViewChanges.{takes_view, grants_view, same_nodes, framed_view}
+use Rattle.vc_machine.proofs.StepRefinement.{as_run, run_joined}
+use Rattle.vc_machine.proofs.Passes.{passes_view}
+use Rattle.vc_machine.proofs.Puts.{puts_view, binds_view}
+use Rattle.vc_machine.proofs.Bindings.{step_bindings, no_bindings}
+use Rattle.vc_machine.proofs.CreditSum.{step_counts, no_counts, within_credit, place_kept, credit_low}
 
 pub step_view : (net : Net) (back : ℕ → ℕ) (waiting : Waiting) → Ranges net → (t : Tokens) (s : State) (e : TokenEvent) (u : Tokens) → Bindings net t → TokenView net t s →
     TokenStep net back waiting t e u → AtMostTwo net s u

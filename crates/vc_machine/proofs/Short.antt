@@ -8,8 +8,8 @@ use Rattle.vc_machine.specs.Machine.{State, Input, Empty, Full}
 use Rattle.vc_machine.specs.Places.{Place, Queue, OnWire, Inside, of_input, at_place, in_ways}
 use Rattle.vc_machine.specs.Private.Laws.{FitsWay, IsLimit, CameFitting}
 use Rattle.vc_machine.specs.Owners.{PacketsAreShort}
-use Rattle.vc_machine.proofs.Fitting.{limits, PacketsFit, packets_fit}
-use Rattle.vc_machine.proofs.Owned.{all_both}
+use Rattle.vc_machine.proofs.PacketSizes.{limits, PacketsFit, packets_fit}
+use Rattle.vc_machine.proofs.Ownership.{all_both}
 
 abbrev IsShort : ℕ → Place × Packet → Type 0
 IsShort limit x = length x.1.body ≤ limit

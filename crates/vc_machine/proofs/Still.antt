@@ -28,18 +28,18 @@ use Rattle.vc_machine.proofs.Ways.{front_of}
 use Rattle.vc_machine.proofs.Moves.{drawn_on, has_way}
 use Rattle.vc_machine.proofs.Receive.{taken_off, takes_it, Arrival}
 use Rattle.vc_machine.proofs.Runs.{at_start, ran}
-use Rattle.vc_machine.proofs.Spelling.{fcts-append, mark_in_bytes}
+use Rattle.vc_machine.proofs.Spellings.{fcts-append, mark_in_bytes}
 use Rattle.vc_machine.proofs.TokenCover.{follows, onward}
 use Rattle.vc_machine.proofs.Heads.{headed_is, inside_node, inside_unmarked, inside_marked, longer, no_group, same_switch, group_of}
-use Rattle.vc_machine.proofs.Seeing.{front_packet}
+use Rattle.vc_machine.proofs.ViewChanges.{front_packet}
 use Rattle.vc_machine.proofs.Ahead.{Ahead, Sending, queued, bound}
-use Rattle.vc_machine.proofs.Keeping.{nothing_ahead}
-use Rattle.vc_machine.proofs.Binding.{no_bindings}
+use Rattle.vc_machine.proofs.AheadSteps.{nothing_ahead}
+use Rattle.vc_machine.proofs.Bindings.{no_bindings}
 use Rattle.vc_machine.proofs.Cover.{spelled_behind}
-use Rattle.vc_machine.proofs.Crediting.{no_counts}
+use Rattle.vc_machine.proofs.CreditSum.{no_counts}
 use Rattle.vc_machine.proofs.Refinement.{no_view, run_counts}
 use Rattle.vc_machine.proofs.Limits.{Reached, run_reached, puts_go_on}
-use Rattle.vc_machine.proofs.Fitting.{limits, packets_fit, all_fit}
+use Rattle.vc_machine.proofs.PacketSizes.{limits, packets_fit, all_fit}
 
 -- Lists of tokens
 

@@ -4,16 +4,16 @@ use Rattle.vc_machine.specs.Paths.{Net}
 use Rattle.vc_machine.specs.Machine.{State, ChanState, Event, Run, start}
 use Rattle.vc_machine.specs.Headline.{Headline}
 use Rattle.vc_machine.proofs.Main.{headline}
-use Rattle.vc_machine.proofs.Reading.{seen_is}
+use Rattle.vc_machine.proofs.Functional.{seen_is}
 use Rattle.vc_machine.specs.Links.{Tokens, no_tokens}
 use Rattle.vc_switch.specs.Waiting.{Waiting}
 use Rattle.vc_machine.specs.TokenMachine.{TokenEvent, TokenRun}
 use Rattle.vc_machine.specs.View.{TokenView, Bindings}
 use Rattle.vc_machine.specs.Laws.{Ranges}
 use Rattle.vc_machine.specs.TokenHeadline.{TokensKeepHeadline}
-use Rattle.vc_machine.proofs.Refined.{as_run, run_joined}
+use Rattle.vc_machine.proofs.StepRefinement.{as_run, run_joined}
 use Rattle.vc_machine.proofs.Refinement.{step_view, no_view}
-use Rattle.vc_machine.proofs.Binding.{step_bindings, no_bindings}
+use Rattle.vc_machine.proofs.Bindings.{step_bindings, no_bindings}
 
 -- a run of the packet machine from s to what u stands for
 record Went (net : Net) (s : State) (u : Tokens) : Type 0 where

@@ -9,7 +9,7 @@ use Rattle.vc_machine.specs.Machine.{State, Input}
 use Rattle.vc_tokens.specs.Tokens.{Token, EndMark, bytes, spelling, spellings, Spells}
 use Rattle.vc_machine.specs.Links.{Tokens}
 use Rattle.vc_machine.specs.View.{Got, nothing, begun, Inside, without_mark, with_mark, stream, TokenView}
-use Rattle.vc_machine.proofs.Spelling.{first_packet}
+use Rattle.vc_machine.proofs.Spellings.{first_packet}
 use Rattle.vc_machine.proofs.Heads.{node_got, inside_unmarked, inside_marked}
 
 pub spells_one : (ts : List Token) (ps qs : List Packet) (rest : List ℕ) → Spells ts ps rest → Spells ts qs rest → ps ≡ qs

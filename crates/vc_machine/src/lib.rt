@@ -113,7 +113,7 @@ pub fn a_token_event_leads_to_one_state()
 /// On an accepted network, after any list of steps, each packet in a queue, on a way or in a switch belongs to a channel, and no packet
 /// to two. Whatever path its headers let it take from there, whatever is drawn and whichever link of a group it leaves by, the node to
 /// which it comes is that channel's end.
-#[tactic(auto, using(crate::proofs::Owned::each_owned, crate::proofs::Owned::owners_one, crate::proofs::Owned::paths_reach))]
+#[tactic(auto, using(crate::proofs::Ownership::each_owned, crate::proofs::Ownership::owners_one, crate::proofs::Ownership::paths_reach))]
 pub fn each_packet_has_its_channel()
     ensures owner { (net : Net) → EachHasOwner net }
     ensures one { (net : Net) → OwnersAreOne net }

@@ -24,7 +24,7 @@ use Rattle.vc_network.specs.Credit.{sender_at}
 use Rattle.vc_network.specs.Views.{vcps, switches, queue_at}
 use Rattle.vc_network.proofs.NodeLift.{taken_back}
 use Rattle.vc_network.specs.Packets.{SameBound}
-use Rattle.vc_network.proofs.Showing.{NodeEnd, SwitchEnd, SameReceiver, carriers, losses}
+use Rattle.vc_network.proofs.TokenViews.{NodeEnd, SwitchEnd, SameReceiver, carriers, losses}
 use Rattle.vc_network.proofs.Steps.{Good}
 use Rattle.vc_network.proofs.SwitchLinks.{has_group, group_back, header_same, bound_some, bound_back}
 use Rattle.vc_network.proofs.Wires.{one_near}

@@ -13,11 +13,11 @@ use Rattle.vc_network.specs.Processes.{StepRelation}
 use Rattle.vc_network.specs.Still.{IsNoMove, RunsEnd}
 use Rattle.vc_switch.specs.Waiting.{Waiting}
 use Rattle.vc_network.proofs.Backs.{back_real}
-use Rattle.vc_network.proofs.Fitting.{has_headers}
+use Rattle.vc_network.proofs.PacketSizes.{has_headers}
 use Rattle.vc_network.proofs.Main.{ran, good_start}
 use Rattle.vc_network.proofs.Nexts.{next}
 use Rattle.vc_network.proofs.Replays.{replayed}
-use Rattle.vc_network.proofs.Showing.{wires}
+use Rattle.vc_network.proofs.TokenViews.{wires}
 use Rattle.vc_network.proofs.Steps.{Good}
 use Rattle.vc_network.proofs.Wiring.{net_accepted}
 

@@ -5,7 +5,7 @@ use Rattle.std.proofs.lemmas.Bool.{cases_lt}
 use Rattle.vc_network.specs.Actors.{Network, Step, Label}
 use Rattle.vc_network.specs.Private.Actors.{Event, Run}
 use Rattle.vc_network.specs.Actors.Label.{Own, Takes, Puts}
-use Rattle.vc_network.proofs.Growing.{Run-more}
+use Rattle.vc_network.proofs.LongerRuns.{Run-more}
 use Rattle.vc_packets.specs.Counters.{one_more}
 use Rattle.vc_packets.specs.Functions.{put}
 use Rattle.vc_tokens.specs.Tokens.{Token}

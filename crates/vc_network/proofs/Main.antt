@@ -10,8 +10,8 @@ use Rattle.vc_switch.specs.Waiting.{Waiting}
 use Rattle.vc_machine.specs.TokenMachine.{TokenEvent, TokenRun}
 use Rattle.vc_machine.specs.PacketsOfTokens.{input_of, seen}
 use Rattle.vc_machine.proofs.Refinement.{no_view}
-use Rattle.vc_machine.proofs.Binding.{no_bindings}
-use Rattle.vc_machine.proofs.Crediting.{no_counts}
+use Rattle.vc_machine.proofs.Bindings.{no_bindings}
+use Rattle.vc_machine.proofs.CreditSum.{no_counts}
 use Rattle.vc_machine.specs.Paths.{Port, AtNode, AtSwitch}
 use Rattle.vc_machine.specs.Rendezvous.{View, Comm, DoesAll, part, nothing_yet}
 use Rattle.vc_machine.specs.Machine as net
@@ -30,9 +30,9 @@ use Rattle.vc_network.specs.Views.{vcp_of, halves_view, inner_of, switch_of, vcp
 use Rattle.vc_network.proofs.Replays.{replayed}
 use Rattle.vc_network.specs.Headline.{HeadlineHolds, IsFaithful, HasItsPacket, AreTold, Headline}
 use Rattle.vc_network.proofs.Wiring.{net_accepted, carried}
-use Rattle.vc_network.proofs.Homed.{VcpHomed, SwitchHomed, new_vcp_homed}
+use Rattle.vc_network.proofs.Homes.{VcpHomed, SwitchHomed, new_vcp_homed}
 use Rattle.vc_network.specs.Credit.{sender_at}
-use Rattle.vc_network.proofs.Showing.{Shows, SameReceiver, carriers}
+use Rattle.vc_network.proofs.TokenViews.{Shows, SameReceiver, carriers}
 use Rattle.vc_network.proofs.Steps.{InnerFits, runs_joined, seen_sound, Good, view_seen}
 use Rattle.vc_network.proofs.Nexts.{process_of, next}
 

@@ -31,15 +31,15 @@ use Rattle.vc_network.specs.Still.{IsNoMove}
 use Rattle.vc_network.specs.Views.{vcp_of, inner_of, switch_of, vcps, switches, view}
 use Rattle.vc_network.proofs.Backs.{back_into}
 use Rattle.vc_network.proofs.Seen.{Sees}
-use Rattle.vc_network.proofs.Saying.{Says, silent, one}
+use Rattle.vc_network.proofs.ChannelSteps.{Says, silent, one}
 use Rattle.vc_network.specs.Headline.{ByOneEvent, no_step, one_step, exchange}
 use Rattle.vc_network.proofs.NodeLift.{Lifted, offers, wants, chooses, stops}
-use Rattle.vc_network.proofs.Showing.{Shows, carriers, losses, halves_shown, is_due, SameReceiver, link_here, input_here}
+use Rattle.vc_network.proofs.TokenViews.{Shows, carriers, losses, halves_shown, is_due, SameReceiver, link_here, input_here}
 use Rattle.vc_credit.specs.Ends.{IsDue}
-use Rattle.vc_network.proofs.Fitting.{fits}
+use Rattle.vc_network.proofs.PacketSizes.{fits}
 use Rattle.vc_network.proofs.NodeLinks.{TokenLifted, new_carriers, said_by_pass, comes, passes_a_byte, passes_a_mark, sends, sends_fct}
 use Rattle.vc_network.proofs.SwitchLinks as at_switch
-use Rattle.vc_network.proofs.Homed.{CarrierHomed, VcpHomed, SwitchHomed, offers_homed, wants_homed, fetches_homed, stops_homed, unqueued_homed, passes_carrier, link_homed, halves_homed, link_way, input_homed, input_way, routed_way}
+use Rattle.vc_network.proofs.Homes.{CarrierHomed, VcpHomed, SwitchHomed, offers_homed, wants_homed, fetches_homed, stops_homed, unqueued_homed, passes_carrier, link_homed, halves_homed, link_way, input_homed, input_way, routed_way}
 use Rattle.vc_network.proofs.Steps.{InnerFits, Good, sound_step, own_ways, take_front, take_ways, put_ways, node_vcps, node_switches, switch_vcps, switch_switches, outer_views, inner_views, on, part_on, part_off}
 
 abbrev pub process_of : {P : Type 0} → P → Actor P → P

@@ -18,7 +18,7 @@ use Rattle.vc_network.specs.Views.{source_node, sink_node, queue_at}
 use Rattle.vc_network.proofs.Wiring.{OutputsHere, InputsHere, outputs_here, inputs_here, outputs_there, inputs_there, node_end}
 use Rattle.vc_network.specs.Packets.{of_halves}
 use Rattle.vc_network.proofs.Seen.{Sees, put_twice, out_seen, in_seen, queue_seen, same_queues, keep}
-use Rattle.vc_network.proofs.Saying.{Says, silent, one}
+use Rattle.vc_network.proofs.ChannelSteps.{Says, silent, one}
 
 pub record Lifted (plan : Plan) (car : ℕ → Carrier) (sw : ℕ → ℕ) (t : State) (e : Event) (ks : List (ℕ × Comm)) : Type 0 where
   pub new : State

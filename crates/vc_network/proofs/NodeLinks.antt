@@ -24,10 +24,10 @@ use Rattle.vc_network.specs.Plan.{Plan, ends, back, net_of, IsAccepted, IsOutOf,
 use Rattle.vc_network.specs.Views.{queue_at}
 use Rattle.vc_network.proofs.Backs.{back_back, back_into, back_out}
 use Rattle.vc_network.proofs.Seen.{Sees, keep, queue_seen}
-use Rattle.vc_network.proofs.Saying.{Says, silent}
+use Rattle.vc_network.proofs.ChannelSteps.{Says, silent}
 use Rattle.vc_network.proofs.NodeLift.{said_by_taken, reached}
 use Rattle.vc_network.specs.Credit.{sender_at}
-use Rattle.vc_network.proofs.Showing.{Shows, NodeEnd, SameReceiver, carriers, losses, node_shown}
+use Rattle.vc_network.proofs.TokenViews.{Shows, NodeEnd, SameReceiver, carriers, losses, node_shown}
 
 pub record TokenLifted (plan : Plan) (waiting : Waiting) (vs : ℕ → Vcp) (sw : ℕ → Switch) (lines : ℕ → List Token) (t : Tokens) (e : TokenEvent) (ks : List (ℕ × Comm)) : Type 0 where
   pub new : Tokens

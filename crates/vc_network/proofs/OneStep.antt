@@ -3,8 +3,8 @@ use Rattle.std.proofs.Common.{◌≡◌, ℕ, ◌<◌, map, refl, sym, ap, subst
 use Rattle.vc_network.specs.Actors.{Label, Step, Alike, act_of}
 use Rattle.vc_network.specs.Private.Actors.{AreOne, IsDetermined}
 use Rattle.vc_network.specs.Actors.Label.{Own, Takes, Puts}
-use Rattle.vc_network.proofs.Determined.{step_determined}
-use Rattle.vc_network.proofs.Replaying.{never_refused, same_end}
+use Rattle.vc_network.proofs.Determinism.{step_determined}
+use Rattle.vc_network.proofs.ThreadRuns.{never_refused, same_end}
 use Rattle.vc_tokens.specs.Tokens.{Token}
 use Rattle.vc_switch.specs.Waiting.{Waiting}
 use Rattle.vc_vcp.specs.Links as links

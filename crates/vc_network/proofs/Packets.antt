@@ -8,7 +8,7 @@ use Rattle.vc_machine.specs.Paths.{Port, AtNode, AtSwitch, Net}
 use Rattle.vc_machine.specs.PacketsOfTokens.{input_of, seen}
 use Rattle.vc_machine.specs.TokenMachine.{TokenEvent, TokenRun}
 use Rattle.vc_machine.specs.View as view
-use Rattle.vc_machine.proofs.Reading.{seen_is}
+use Rattle.vc_machine.proofs.Functional.{seen_is}
 use Rattle.vc_machine.proofs.Refinement.{step_view, runs_are_runs}
 use Rattle.vc_switch.specs.Switch.{Switch}
 use Rattle.vc_switch.specs.Waiting.{Waiting, Wormhole}
@@ -22,7 +22,7 @@ use Rattle.vc_network.specs.Views.{vcps, switches, Arrived, arrived, on_wire}
 use Rattle.vc_network.proofs.Main.{ran, good_start, same_arrived}
 use Rattle.vc_network.proofs.Nexts.{next}
 use Rattle.vc_network.proofs.Replays.{replayed}
-use Rattle.vc_network.proofs.Showing.{SameReceiver}
+use Rattle.vc_network.proofs.TokenViews.{SameReceiver}
 use Rattle.vc_network.proofs.Steps.{Good}
 use Rattle.vc_network.proofs.Wiring.{net_accepted}
 

@@ -11,10 +11,10 @@ use Rattle.vc_machine.specs.Paths.{Net}
 use Rattle.vc_machine.specs.View.{TokenView, Bindings, stays, moves, enters_bound}
 use Rattle.vc_machine.specs.Private.View.{Credited}
 use Rattle.vc_machine.specs.PacketsOfTokens.{seen}
-use Rattle.vc_machine.proofs.Reading.{seen_is}
+use Rattle.vc_machine.proofs.Functional.{seen_is}
 use Rattle.vc_machine.proofs.Refinement.{step_view}
-use Rattle.vc_machine.proofs.Binding.{step_bindings}
-use Rattle.vc_machine.proofs.Crediting.{step_counts}
+use Rattle.vc_machine.proofs.Bindings.{step_bindings}
+use Rattle.vc_machine.proofs.CreditSum.{step_counts}
 use Rattle.vc_machine.specs.Rendezvous.{View, Comm, DoesAll, part}
 use Rattle.vc_machine.specs.Machine.{State, view_of, view as net_view, Event as NetEvent}
 use Rattle.vc_packets.specs.Functions.{put}
@@ -26,10 +26,10 @@ use Rattle.vc_network.specs.Plan.{Home, Inside, IsAccepted, Plan, Way, back, hom
 use Rattle.vc_network.specs.Network.{Act, Node, Actor, IsNode, IsSwitch}
 use Rattle.vc_network.specs.Views.{vcp_of, inner_of, switch_of, vcps, switches, source_node, sink_node, view_at, view}
 use Rattle.vc_network.specs.Packets.{of_halves}
-use Rattle.vc_network.proofs.Showing.{Shows, wires}
+use Rattle.vc_network.proofs.TokenViews.{Shows, wires}
 use Rattle.vc_network.proofs.Wiring.{net_accepted}
-use Rattle.vc_network.proofs.Saying.{Says, silent, one, said}
-use Rattle.vc_network.proofs.Homed.{VcpHomed, SwitchHomed}
+use Rattle.vc_network.proofs.ChannelSteps.{Says, silent, one, said}
+use Rattle.vc_network.proofs.Homes.{VcpHomed, SwitchHomed}
 
 -- an inner channel's view between its steps
 pub record InnerFits (v : View) : Type 0 where

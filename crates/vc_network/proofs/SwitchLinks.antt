@@ -20,10 +20,10 @@ use Rattle.vc_network.proofs.Wires.{found_by, one_near}
 use Rattle.vc_network.specs.Plan.{body_limit, Plan, ways, far, back, way_from, net_of, switch_plan, IsAccepted, IsOutOf, IsInto}
 use Rattle.vc_network.proofs.Backs.{back_back, back_into, back_out}
 use Rattle.vc_network.proofs.Seen.{Sees, keep}
-use Rattle.vc_network.proofs.Saying.{silent}
+use Rattle.vc_network.proofs.ChannelSteps.{silent}
 use Rattle.vc_network.specs.Credit.{sender_at}
 use Rattle.vc_network.specs.Packets.{SameBound}
-use Rattle.vc_network.proofs.Showing.{Shows, SwitchEnd, SameReceiver, carriers, losses, switch_shown}
+use Rattle.vc_network.proofs.TokenViews.{Shows, SwitchEnd, SameReceiver, carriers, losses, switch_shown}
 use Rattle.vc_network.proofs.NodeLinks.{TokenLifted, wire_take, wire_put}
 
 -- the words of a switch and of the network say the same

@@ -3,7 +3,7 @@ use Rattle.std.proofs.Common.{◌≡◌, ℕ, ◌+◌, ◌<◌, ◌≤◌, List,
 use Rattle.vc_network.specs.Actors.{Label, taken_off, put_on}
 use Rattle.vc_network.specs.Private.Actors.{KeepsTo}
 use Rattle.vc_network.specs.Actors.Label.{Own, Takes, Puts}
-use Rattle.vc_network.proofs.Replaying.{threads_run}
+use Rattle.vc_network.proofs.ThreadRuns.{threads_run}
 use Rattle.vc_tokens.specs.Tokens.{Token}
 use Rattle.vc_switch.specs.Waiting.{Waiting}
 use Rattle.vc_network.specs.Plan.{Plan, ways}

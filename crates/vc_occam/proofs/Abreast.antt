@@ -25,7 +25,7 @@ use Rattle.vc_occam.specs.Private.Frames.{Able, CanGo, Did, Went, assigned_at, h
 use Rattle.vc_occam.proofs.Doers.{AllWithin, able_site, besides_sites, found_assigned, not_before, not_behind, part_at}
 use Rattle.vc_occam.proofs.Endings.{beside_goes, does_go, goes_beside, left_ended, left_same}
 use Rattle.vc_occam.proofs.Inside.{tasks_inside}
-use Rattle.vc_occam.proofs.Going.{part_changes, part_is_changed, part_is_in_preorder, part_is_sound, parts_still_sound, same_plans}
+use Rattle.vc_occam.proofs.PartSteps.{part_changes, part_is_changed, part_is_in_preorder, part_is_sound, parts_still_sound, same_plans}
 use Rattle.vc_occam.proofs.Outcomes.{task_outcome}
 use Rattle.vc_occam.proofs.Sites.{clash}
 

@@ -22,7 +22,7 @@ use Rattle.vc_occam.specs.Frames.{View, all_sound, bodies, branches_of, branchin
 use Rattle.vc_occam.specs.Private.Frames.{Able, CanGo, Did, HasTurned, Went, assigned_at, has_ended, turns_behind, unstopped}
 use Rattle.vc_occam.specs.Private.Sites.{InPreorder, BranchesInPreorder, GuardsInPreorder}
 use Rattle.vc_occam.proofs.Endings.{does_go, left_goes, left_ended, index_stays, turns_go}
-use Rattle.vc_occam.proofs.Going.{part_is_changed, part_is_sound, parts_still_sound, then_able, then_did, then_ended, then_outcome}
+use Rattle.vc_occam.proofs.PartSteps.{part_is_changed, part_is_sound, parts_still_sound, then_able, then_did, then_ended, then_outcome}
 use Rattle.vc_occam.proofs.Stores.{or_left, or_right}
 
 -- the body in a list of branches

@@ -15,7 +15,7 @@ use Rattle.vc_occam.specs.Frames.{View, guards_of}
 use Rattle.vc_occam.specs.MoveSites.{from_site, site_of}
 use Rattle.vc_occam.specs.Private.Frames.{choice_of, moves_of, seen_guard}
 use Rattle.vc_process.proofs.Lists.{none, only}
-use Rattle.vc_process.proofs.Reaching.{drop_at}
+use Rattle.vc_process.proofs.Walks.{drop_at}
 
 -- the moves of guards from one on
 drop_guard : (xs : List (Guard Frame)) (i k : ℕ) (x : Guard Frame) (e : Store) → k < length xs → x ≡ get_or xs k x →

@@ -10,10 +10,10 @@ use Rattle.vc_occam.specs.Completeness.{Steps, no_more, one_more, at_first, Ends
 use Rattle.vc_occam.specs.Remains.{Rest, Done, Fresh, Turns, and_then, begin, begin_all, then_on, turns_on, beside_on, branch_on, chosen, GuardAt, first, later, does_skip, does_empty_seq, does_empty_par, does_assign, does_if, does_turn, does_leave, does_count, does_count_none, does_offer, does_finish, does_input, does_stop, does_choose}
 use Rattle.vc_occam.specs.States.{State}
 use Rattle.vc_occam.specs.Traces.{Comm, In, End, Open, Ended, set, join, both_ended, SameKind, Decided, Trace, cut, skip, assign, begin_out, out, input, stop_chan, seq, par, choose, leave, last_turn, turn, count, select, TraceSeq, seq_end, seq_open, seq_next, TracePar, par_end, par_more, TraceIf, here, further, TraceCount, counted, count_open, count_turn, TraceAlt, this, that}
-use Rattle.vc_occam.proofs.Keeping.{begins}
-use Rattle.vc_occam.proofs.Receiving.{received_sent}
+use Rattle.vc_occam.proofs.Preservation.{begins}
+use Rattle.vc_occam.proofs.Receipt.{received_sent}
 use Rattle.vc_occam.proofs.Rests.{join_same}
-use Rattle.vc_occam.proofs.Weaving.{offers, finishes, takes, chooses, stops, Run, still, quiet, tells, then_is, turns_is, index_is, left_is, thens, then_run, turning, turns_run, append, both, weave}
+use Rattle.vc_occam.proofs.Interleavings.{offers, finishes, takes, chooses, stops, Run, still, quiet, tells, then_is, turns_is, index_is, left_is, thens, then_run, turning, turns_run, append, both, weave}
 
 -- a process at first has not ended
 and_then_goes : (r : Rest) (ps : Procs) → (r ≡ Done → ⊥) → and_then r ps ≡ Done → ⊥

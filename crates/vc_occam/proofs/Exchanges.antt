@@ -17,19 +17,19 @@ use Rattle.vc_occam.specs.Traces.{Comm, Out, Fin, In, Stp}
 use Rattle.vc_occam.specs.declared.moves.Move.TheVariants as move
 use Rattle.vc_occam.specs.SiteActions.{SiteAction}
 use Rattle.vc_occam.specs.SiteActions as action
-use Rattle.vc_occam.proofs.Commuting.{after_output, before_end, swap}
+use Rattle.vc_occam.proofs.Commutation.{after_output, before_end, swap}
 use Rattle.vc_occam.proofs.Completeness.{made}
 use Rattle.vc_occam.proofs.Determinate.{finishing_one}
 use Rattle.vc_occam.proofs.Insertion.{is_inserted}
-use Rattle.vc_occam.proofs.Keeping.{begins, lawful, step_uses}
-use Rattle.vc_occam.proofs.Listing.{quiet_own, stop_own, want_own, choose_own, offer_on, stop_on}
+use Rattle.vc_occam.proofs.Preservation.{begins, lawful, step_uses}
+use Rattle.vc_occam.proofs.SiteMoves.{quiet_own, stop_own, want_own, choose_own, offer_on, stop_on}
 use Rattle.vc_occam.proofs.Made.{finishes as ends_there}
 use Rattle.vc_occam.proofs.Meets.{lists_meeting, lists_other}
-use Rattle.vc_occam.proofs.Offered.{offer_own}
-use Rattle.vc_occam.proofs.Shrinking.{step_in, begin_in}
+use Rattle.vc_occam.proofs.Offers.{offer_own}
+use Rattle.vc_occam.proofs.UseBounds.{step_in, begin_in}
 use Rattle.vc_occam.proofs.Sites.{Within}
-use Rattle.vc_occam.proofs.Waiting.{step_waits}
-use Rattle.vc_occam.proofs.Weaving.{Speaks, offers, finishes, takes, chooses, stops, Run, still, quiet, tells}
+use Rattle.vc_occam.proofs.StepWaits.{step_waits}
+use Rattle.vc_occam.proofs.Interleavings.{Speaks, offers, finishes, takes, chooses, stops, Run, still, quiet, tells}
 
 -- so many steps, one after another
 data Long : ℕ → State → List Comm → State → Type 0 where

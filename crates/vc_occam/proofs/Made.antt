@@ -31,7 +31,7 @@ use Rattle.vc_process.proofs.Lists.{only, none, at_front, behind, front_or}
 use Rattle.vc_occam.proofs.Insertion.{is_inserted}
 use Rattle.vc_occam.proofs.Sites.{not_true, clash}
 use Rattle.vc_occam.proofs.Stores.{or_left, or_right, or_false}
-use Rattle.vc_occam.proofs.Waiting.{step_waits}
+use Rattle.vc_occam.proofs.StepWaits.{step_waits}
 
 -- a process that hasn't begun stands in what remains
 pub data Stands (p : Proc) : Rest → Type 0 where

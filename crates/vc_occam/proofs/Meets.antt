@@ -24,13 +24,13 @@ use Rattle.vc_process.specs.ProcessStep.{Meets}
 use Rattle.vc_occam.specs.Traces.{Comm, Out, Fin, In}
 use Rattle.vc_process.specs.Usage.{Set}
 use Rattle.vc_process.specs.Values.{Store}
-use Rattle.vc_occam.proofs.Acting.{one_waits, says, sends, waits_site}
-use Rattle.vc_occam.proofs.Keeping.{doing_is_traced, doing_keeps_use}
+use Rattle.vc_occam.proofs.MoveActs.{one_waits, says, sends, waits_site}
+use Rattle.vc_occam.proofs.Preservation.{doing_is_traced, doing_keeps_use}
 use Rattle.vc_process.proofs.Lists.{at_front, behind, front_or, none, only}
 use Rattle.vc_occam.proofs.Insertion.{is_inserted}
 use Rattle.vc_occam.proofs.Made.{able, began, met, no_meeting, taking_partner}
 use Rattle.vc_occam.proofs.Sites.{doing_keeps, step_keeps}
-use Rattle.vc_occam.proofs.Waiting.{step_waits}
+use Rattle.vc_occam.proofs.StepWaits.{step_waits}
 
 -- a move that is listed: one that needs no channel inside, or a meeting on one that is
 abbrev pub Joined : Set → List Move → List Move → Move → Type 0

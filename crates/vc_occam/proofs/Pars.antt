@@ -15,7 +15,7 @@ use Rattle.vc_occam.specs.Private.Frames.{place_with, seen_task, shape, shown, t
 use Rattle.vc_occam.specs.Private.Sites.{InPreorder, PartsInPreorder}
 use Rattle.vc_occam.specs.Sites.{site}
 use Rattle.vc_occam.proofs.AtItself.{frame_sound, goes_on, shown_rest}
-use Rattle.vc_occam.proofs.Beginning.{plan_out}
+use Rattle.vc_occam.proofs.Starts.{plan_out}
 
 pub par_rest : (f : Frame) (p : Par Frame) → (view f).sound ≡ true → (out-Frame f).construct ≡ run.Par p → (view f).rest ≡ besides (task_views p.tasks.items)
 par_rest f p h e = shown_rest f (run.Par p) (goes_on f (run.Par p) h e refl) e

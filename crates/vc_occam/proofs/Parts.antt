@@ -15,7 +15,7 @@ use Rattle.vc_occam.specs.Frames.{View, Shape, seq, par, branching, looping, cou
 use Rattle.vc_occam.specs.Private.Frames.{IsPart, innermost, shape, unstopped}
 use Rattle.vc_occam.specs.Private.Sites.{InPreorder, PartsInPreorder, BranchesInPreorder, GuardsInPreorder}
 use Rattle.vc_occam.proofs.AtItself.{frame_sound}
-use Rattle.vc_occam.proofs.Going.{part_is_sound}
+use Rattle.vc_occam.proofs.PartSteps.{part_is_sound}
 use Rattle.vc_occam.proofs.Views.{view_out}
 
 -- the part that goes on alone, if one does

@@ -8,7 +8,7 @@ use Rattle.vc_process.specs.Syntax.{Exp, Number, Variable, Binary, SizeOf, Test,
 use Rattle.vc_process.specs.Values.{Store, whole_of, bytes_of, with_both, result, compares, within, value_of, holds, datum_of}
 use Rattle.vc_process.specs.Usage.{Set, ◌∪◌, just, in_exp, in_test, in_given, changes, changes_all, changes_branches, changes_guards, uses, uses_all, uses_branches, uses_guards}
 use Rattle.vc_occam.proofs.Stores.{or_left, or_right}
-use Rattle.vc_occam.proofs.Used.{changed_used}
+use Rattle.vc_occam.proofs.Changes.{changed_used}
 use Rattle.vc_occam.specs.Traces.{Comm, End, Open, Ended, set, SameKind, both_ended, Counts, Decided, Trace, cut, skip, assign, begin_out, out, input, stop_chan, seq, par, choose, leave, last_turn, turn, count, select, TraceSeq, seq_end, seq_open, seq_next, TracePar, par_end, par_more, TraceIf, here, further, TraceCount, counted, count_open, count_turn, TraceAlt, this, that}
 
 -- no two of the variables that count get one number

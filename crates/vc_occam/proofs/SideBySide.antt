@@ -12,7 +12,7 @@ use Rattle.vc_occam.specs.Frames.{View, besides, task_view}
 use Rattle.vc_occam.specs.Private.Frames.{assigned_at, first_waits, seen_task, shown, task_views, waits_there, whole}
 use Rattle.vc_occam.specs.Remains.{Rest, Done, beside_on}
 use Rattle.vc_occam.specs.States.{Waiting, output_at, waiting}
-use Rattle.vc_process.proofs.Reaching.{drop_all, drop_at}
+use Rattle.vc_process.proofs.Walks.{drop_all, drop_at}
 
 pub beside_own : (mine : Set) (r q : Rest) (e : Store) → own (beside_on mine r q) e ≡ own r e ++ own q e
 beside_own mine Done Done e = refl

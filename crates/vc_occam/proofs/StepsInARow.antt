@@ -33,14 +33,14 @@ use Rattle.vc_process.specs.Syntax.{Proc, SEQ, PAR, IF, WHILE, COUNT, Procs, no_
 use Rattle.vc_process.specs.Terms.{store}
 use Rattle.vc_process.specs.Values.{Store}
 use Rattle.vc_process.proofs.Lists.{at_front}
-use Rattle.vc_occam.proofs.Acted.{frame_runs, running_view}
-use Rattle.vc_occam.proofs.Acting.{acts}
+use Rattle.vc_occam.proofs.SiteActs.{frame_runs, running_view}
+use Rattle.vc_occam.proofs.MoveActs.{acts}
 use Rattle.vc_occam.proofs.Endings.{left_again}
-use Rattle.vc_occam.proofs.Keeping.{step_uses}
+use Rattle.vc_occam.proofs.Preservation.{step_uses}
 use Rattle.vc_occam.proofs.Sites.{step_keeps}
-use Rattle.vc_occam.proofs.Beginning.{same_as_itself}
+use Rattle.vc_occam.proofs.Starts.{same_as_itself}
 use Rattle.vc_occam.proofs.Bodies.{branch_body, branch_went, turn_ended, turn_goes, with_body}
-use Rattle.vc_occam.proofs.Going.{part_is_changed, parts_still_sound, seq_goes, seq_sound, seq_went}
+use Rattle.vc_occam.proofs.PartSteps.{part_is_changed, parts_still_sound, seq_goes, seq_sound, seq_went}
 use Rattle.vc_occam.proofs.Made.{able}
 use Rattle.vc_occam.proofs.Outcomes.{quiet_assigned, quiet_own}
 use Rattle.vc_occam.proofs.Views.{view_roll}

@@ -17,9 +17,9 @@ use Rattle.vc_occam.specs.States.{Does, bytes_or_none, came, carried, output_at}
 use Rattle.vc_occam.specs.Traces.{Comm}
 use Rattle.vc_process.specs.ProcessStep.{Meets}
 use Rattle.vc_process.specs.Values.{Store}
-use Rattle.vc_occam.proofs.Commuting.{after_output, swap}
+use Rattle.vc_occam.proofs.Commutation.{after_output, swap}
 use Rattle.vc_occam.proofs.Determinate.{step_one}
-use Rattle.vc_occam.proofs.Keeping.{lawful}
+use Rattle.vc_occam.proofs.Preservation.{lawful}
 use Rattle.vc_occam.proofs.Made.{able}
 use Rattle.vc_occam.proofs.Meets.{able_taking, has_met}
 use Rattle.vc_occam.proofs.Sites.{step_keeps}

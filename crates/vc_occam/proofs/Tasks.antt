@@ -13,7 +13,7 @@ use Rattle.vc_occam.specs.Private.Wholes.{Begins}
 use Rattle.vc_occam.specs.Remains.{Rest}
 use Rattle.vc_process.specs.Syntax.{Proc}
 use Rattle.vc_process.specs.Values.{Store}
-use Rattle.vc_occam.proofs.Beginning.{task_begun}
+use Rattle.vc_occam.proofs.Starts.{task_begun}
 use Rattle.vc_occam.proofs.Endings.{left_again}
 
 -- what it came to is kept, so that it is what remains

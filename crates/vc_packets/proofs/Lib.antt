@@ -1,2 +1,2 @@
-pub mod Cutting
-pub mod Spelled
+pub mod HeaderBytes
+pub mod PieceLists

@@ -1,7 +1,7 @@
 -- What a process keeps over other variables: its depth, its messages, the names that fit, its uses of channels.
 use Rattle.std.proofs.Common.{◌≡◌, ℕ, ◌-◌, ◌<◌, Bool, true, false, ◌&&◌, ◌||◌, nat_lt, refl, ap, ap₂, ◌∙◌, List, [], ◌∷◌, ◌++◌, length, slice_get, Some}
 use Rattle.std.proofs.lemmas.Bool.{lt-ltb, ltb-true}
-use Rattle.vc_plan.proofs.Limited.{both}
+use Rattle.vc_plan.proofs.Limits.{both}
 use Rattle.vc_process.proofs.Held.{held_there}
 use Rattle.vc_process.specs.ChannelUses.{channel_uses, guard_uses, inputs_on, uses_of_all, uses_of_bodies, uses_of_branches}
 use Rattle.vc_process.specs.Lawful.{inputs, inputs_all, inputs_branches, inputs_guards, outputs, outputs_all, outputs_branches, outputs_guards}

@@ -2,9 +2,9 @@
 use Rattle.std.proofs.Common.{◌≡◌, ℕ, true, ◌&&◌, ◌||◌, refl, sym, ap, ap₂, subst, ◌∙◌, inl, inr, eq-eqb, eqb-true, true≢false}
 use Rattle.vc_occam.proofs.Sites.{Within, either, not_true}
 use Rattle.vc_occam.proofs.Stores.{or_left, or_right}
-use Rattle.vc_occam.proofs.Used.{changed_used}
+use Rattle.vc_occam.proofs.Changes.{changed_used}
 use Rattle.vc_placement.proofs.Kept.{both_true, inputs_kept, outputs_kept}
-use Rattle.vc_plan.proofs.Limited.{both}
+use Rattle.vc_plan.proofs.Limits.{both}
 use Rattle.vc_process.specs.Lawful.{inputs, outputs, Lawfully, LawfullyAll, LawfullyBranches, LawfullyGuards, Shared, SideBySide, With}
 use Rattle.vc_process.specs.Renaming.{renamed_exp, renamed_test, renamed_given, Renamed, skips, never, assigns, outputs as sends, inputs as receives, stops, in_turn, abreast, one_of, again, counts, chooses, AllRenamed, no_part, parts, BranchesRenamed, no_branch, branches, GuardsRenamed, no_guard, guards}
 use Rattle.vc_process.specs.Syntax.{Exp, Number, Variable, Binary, SizeOf, Test, Constant, Compare, Both, Either, Negate, Literal, Contents, Filled, Given, Whole, Bytes, Proc, Procs, Branches, Guards}

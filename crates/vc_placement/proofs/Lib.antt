@@ -8,7 +8,7 @@ pub mod Linearizability
 pub mod Interleavings
 pub mod Networks
 pub mod OneNode
-pub mod Running
+pub mod OneNodeRuns
 pub mod SameProgram
 pub mod Kept
 pub mod LawfulKept

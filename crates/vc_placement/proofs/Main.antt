@@ -6,18 +6,18 @@ use Rattle.std.proofs.lemmas.Bool.{lt-ltb, ltb-true}
 use Rattle.std.proofs.lemmas.List.{length-map, map-append}
 use Rattle.std.proofs.lemmas.List.Folds.{list_all-append}
 use Rattle.std.proofs.lemmas.Option.{slice_get-map}
-use Rattle.vc_occam.proofs.Fitting.{uses_there}
+use Rattle.vc_occam.proofs.Scope.{uses_there}
 use Rattle.vc_occam.proofs.Sites.{either}
-use Rattle.vc_occam.proofs.Used.{changed_used}
+use Rattle.vc_occam.proofs.Changes.{changed_used}
 use Rattle.vc_placement.proofs.Ends.{output_use, input_use}
 use Rattle.vc_placement.proofs.Kept.{both_true, depth_kept, exps_kept, length_kept, names_kept, uses_kept, outputs_kept, inputs_kept}
 use Rattle.vc_placement.proofs.LawfulKept.{lawful_kept, changes_from, uses_from}
 use Rattle.vc_placement.specs.Fits.{fits_one_node, IsSize, IsSizeLimit, OneNodeIsAccepted, OnlySizesRefuseIt}
-use Rattle.vc_plan.proofs.Accepting.{accepted}
-use Rattle.vc_plan.proofs.Refuting.{right}
+use Rattle.vc_plan.proofs.Acceptance.{accepted}
+use Rattle.vc_plan.proofs.Refutations.{right}
 use Rattle.vc_plan.proofs.KeptLimits.{limits_of}
-use Rattle.vc_plan.proofs.Limited.{both, keeps, names-fit, passes, unbroken, Keeps}
-use Rattle.vc_plan.proofs.Passed.{uses_are_ok}
+use Rattle.vc_plan.proofs.Limits.{both, keeps, names-fit, passes, unbroken, Keeps}
+use Rattle.vc_plan.proofs.Tests.{uses_are_ok}
 use Rattle.vc_plan.specs.Accepted.{IsAccepted, uses_of}
 use Rattle.vc_plan.specs.Check.{IsCause, PassesLimits, block_twice, misused, misused_from, port_missing, port_twice, way_twice, same_way, way_twice_from, has_end, end_is_at, end_is_there, kind_fits, channel_used, use_ok, wrong_use, same_bool}
 use Rattle.vc_plan.specs.Private.Check.{PassesUse}

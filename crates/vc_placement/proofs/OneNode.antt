@@ -24,14 +24,14 @@ use Rattle.vc_plan.specs.OneNode.{all_vars, IsBehind, AreProcesses, IsOnOneNode}
 use Rattle.vc_placement.specs.OneNode.{HaveEnded, OneNodeCanDoIt}
 use Rattle.vc_placement.specs.Parallel.{without_nodes, IsEnded}
 use Rattle.vc_placement.specs.Placement.{IsLinearizationOf}
-use Rattle.vc_occam.proofs.Fitting.{uses_there}
+use Rattle.vc_occam.proofs.Scope.{uses_there}
 use Rattle.vc_occam.proofs.Renamings.{EndsAgree, trace_renamed}
 use Rattle.vc_occam.specs.Remains.{Done}
 use Rattle.vc_placement.proofs.Interleavings.{from, joined, from_first, from_none, both, all_meet}
 use Rattle.vc_accepted.specs.Begin.{node_plan, no_node, begin_of}
 use Rattle.vc_accepted.specs.OneList.{by}
 use Rattle.vc_accepted.specs.Process.{Process}
-use Rattle.vc_accepted.proofs.Planned.{named}
+use Rattle.vc_accepted.proofs.Processes.{named}
 use Rattle.vc_tokens.specs.Tokens.{Token}
 
 -- what variables of these kinds hold at first

@@ -27,7 +27,7 @@ use Rattle.vc_plan.specs.declared.vlink.Vlink.{Vlink}
 use Rattle.vc_plan.specs.Accepted.{IsAccepted}
 use Rattle.vc_plan.specs.KeptLimits.{IsOfVersionOne, IsLinkOf, IsWireInLimits, IsEndInLimits, IsVlinkInLimits, IsRangeInLimits, IsSwitchInLimits, IsNodeInLimits, IsHomeOf, IsChannelInLimits, IsName, KeepsLimits}
 use Rattle.vc_plan.specs.Limits.{is_empty, is_portal, switch_in_version_one, version_ok, vars_ok, rows_ok, route_ok, routes_ok, link_ok, port_ok, wire_ok, ends_ok, switch_links_ok, range_ok, links_differ, random_ok, depth_ok, parts_ok, message_ok, spot_there, wire_there, ends_there, home_there, process_names, is_name, node_names_ok, limit_broken}
-use Rattle.vc_plan.proofs.Limited.{both, passes, unbroken, Keeps}
+use Rattle.vc_plan.proofs.Limits.{both, passes, unbroken, Keeps}
 
 both_true : {a b : Bool} → a ≡ true → b ≡ true → (a && b) ≡ true
 both_true e f = ap₂ (λ x y. x && y) e f

@@ -14,7 +14,7 @@ use Rattle.vc_plan.specs.declared.plan.Plan.{Plan}
 use Rattle.vc_plan.specs.declared.vlink.Vlink.{Vlink}
 use Rattle.vc_plan.specs.Accepted.{IsAtEnd, IsOfKind, IsRightUse, end_of}
 use Rattle.vc_plan.specs.Check.{channel_used, end_is_at, end_is_there, has_end, kind_fits, same_bool, use_ok}
-use Rattle.vc_plan.proofs.Limited.{both}
+use Rattle.vc_plan.proofs.Limits.{both}
 
 itself : (n : ℕ) → (n == n) ≡ true
 itself n = grind (arith, nat_tests)

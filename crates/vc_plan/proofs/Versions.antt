@@ -22,7 +22,7 @@ use Rattle.vc_plan.specs.Delivery.{Delivers, IsLabelled, IsWellAt}
 use Rattle.vc_plan.specs.Hops.{IsHop}
 use Rattle.vc_plan.specs.Limits.{depth_ok, ends_there, home_there, limit_broken, links_ok, message_ok, names_ok, number_broken, number_ok, part_broken, parts_ok, process_broken, process_names, random_ok, routes_ok, rows_ok, spot_there, unless_ok, vars_ok, version_ok}
 use Rattle.vc_plan.proofs.KeptLimits.{limits_of, tests_are}
-use Rattle.vc_plan.proofs.Limited.{keeps}
+use Rattle.vc_plan.proofs.Limits.{keeps}
 use Rattle.vc_plan.specs.Versions.{IsVersionOne, version_two, VersionsAgree}
 use Rattle.vc_plan.specs.Wires.{IsWiredAction}
 

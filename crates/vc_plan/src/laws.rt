@@ -11,7 +11,7 @@ pub fn refusals_are_right()
 
 /// A cycle that is shown refutes ranks: where the ports have ranks that rise along each dependency there is no cycle. And no two cycles
 /// are the least.
-#[tactic(auto, using(crate::proofs::Ranking::cycles_right))]
+#[tactic(auto, using(crate::proofs::Ranks::cycles_right))]
 pub fn cycles_are_right()
     ensures { CyclesAreRight }
 {}

@@ -2,7 +2,7 @@
 use Rattle.std.proofs.Common.{◌≡◌, ℕ, zero, suc, ◌+◌, Bool, true, ◌&&◌, nat_lt, refl, sym, ◌∙◌, List, arith}
 use Rattle.vc_process.specs.Numbering.{Numbered, NumberedBranch, NumberedGuard, branches_from, guards_from, parts_from}
 use Rattle.vc_process.specs.ProcessLimits.{branches_depth_within, depth_within, guards_depth_within, parts_depth_within}
-use Rattle.vc_process.proofs.Reaching.{Splits}
+use Rattle.vc_process.proofs.Walks.{Splits}
 
 more_depth : (d : ℕ) (b : Bool) → (d ≡ 0 → ⊥) → (nat_lt 0 d && b) ≡ b
 more_depth zero b some = absurd (some refl)

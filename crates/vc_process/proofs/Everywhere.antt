@@ -7,7 +7,7 @@ use Rattle.vc_process.specs.Private.Questions.{Asking, everywhere, in_branches, 
 use Rattle.vc_process.specs.Numbering.{Numbered, NumberedBranch, NumberedGuard, branches_from, guards_from, numbered, parts_from}
 use Rattle.vc_process.specs.Syntax.{Proc, SKIP, STOP, Assign, Output, Input, StopChan, SEQ, PAR, IF, WHILE, COUNT, ALT}
 use Rattle.vc_process.specs.Terms.{exp, as_test}
-use Rattle.vc_process.proofs.Reaching.{Splits}
+use Rattle.vc_process.proofs.Walks.{Splits}
 
 module _ (a : Asking) where
   abbrev Asked : Numbered → ℕ → Bool → Type 0

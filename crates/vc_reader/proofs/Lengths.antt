@@ -17,7 +17,7 @@ use Rattle.vc_process.specs.Limits.{given_in_length}
 use Rattle.vc_process.specs.Numbering.{Numbered, written}
 use Rattle.vc_process.specs.ProcessLimits.{in_length}
 use Rattle.vc_process.specs.Terms.{given}
-use Rattle.vc_process.proofs.Answered.{length_is}
+use Rattle.vc_process.proofs.Questions.{length_is}
 use Rattle.vc_process.proofs.Numbers.{written_is, number_set, number_send, number_receive, number_stopch}
 use Rattle.vc_plan.specs.declared.channel.Channel.{Channel}
 use Rattle.vc_plan.specs.declared.node_plan.Variable.{Variable}
@@ -28,7 +28,7 @@ use Rattle.vc_reader.specs.Reading.{◌>>=◌, wrong, cell, row, only, by_only, 
 use Rattle.vc_reader.specs.Bytes.{read_variable, no_longer, hex_bytes, read_hex, read_literal, read_fill, formed_bytes, read_bytes}
 use Rattle.vc_reader.specs.Expressions.{whole_expr}
 use Rattle.vc_reader.specs.Processes.{variable_named, channel_named, read_value, read_set, read_send, read_receive, read_stopch, whole_process}
-use Rattle.vc_reader.proofs.Asked.{IsFine, Suits, by_only_ok, process_fine}
+use Rattle.vc_reader.proofs.Questions.{IsFine, Suits, by_only_ok, process_fine}
 use Rattle.vc_reader.proofs.Read.{ok_is, then_ok, under_ok, cell_ok}
 
 -- whether messages are short enough

@@ -30,7 +30,7 @@ use Rattle.vc_reader.specs.Faulty as wants
 use Rattle.vc_reader.specs.Names.{new_name, has_name, known_or_not, one_of}
 use Rattle.vc_reader.specs.Network.{at_most, read_kind, read_way, read_link, read_header, read_limit, read_var, read_head, read_node, portal_word, portal_row, out_row, table_row, read_random, switch_words, is_place, read_switch, place_named, read_place, read_wire, read_end, read_vlink, vlink_number, way_home, node_home, channel_words, read_home, read_channel}
 use Rattle.vc_reader.specs.Reading.{◌>>=◌, wrong, field, cell, read_list, list_field, count, items_in, has_field}
-use Rattle.vc_reader.proofs.Leading.{IsTold, ok_told, kind_told, then_told, field_told, list_told, list_field_told, cell_told, row_told, object_told, text_told, if_told, number_told, new_name_told, known_told, one_of_told}
+use Rattle.vc_reader.proofs.FaultPaths.{IsTold, ok_told, kind_told, then_told, field_told, list_told, list_field_told, cell_told, row_told, object_told, text_told, if_told, number_told, new_name_told, known_told, one_of_told}
 
 -- a part, and what is read then
 pub cell_then : {A B : Type 0} {p : List Step} (n : ℕ) (read : Data → Result A Fault) (ds : Items) (g : A → Result B Fault) → n < count ds →

@@ -19,7 +19,7 @@ use Rattle.vc_reader.specs.declared.fault.Fault.{Fault}
 use Rattle.vc_reader.specs.declared.node.Head.{Head}
 use Rattle.vc_reader.specs.declared.path.Step.TheVariants.{Field, Index}
 use Rattle.vc_reader.specs.declared.word.Word.TheVariants as word
-use Rattle.vc_reader.proofs.Leading.{IsTold, past, ok_told, then_told, under_told, field_told, list_told, object_told, number_told}
+use Rattle.vc_reader.proofs.FaultPaths.{IsTold, past, ok_told, then_told, under_told, field_told, list_told, object_told, number_told}
 use Rattle.vc_reader.proofs.Read.{then_ok, under_ok, field_ok}
 use Rattle.vc_reader.proofs.Told.{field_then, list_then, head_told, switch_told, wire_told, vlink_told, channel_told}
 use Rattle.vc_reader.proofs.ToldProcesses.{whole_process_told}

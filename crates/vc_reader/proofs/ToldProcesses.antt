@@ -46,7 +46,7 @@ use Rattle.vc_reader.specs.Names.{one_of}
 use Rattle.vc_reader.specs.Processes.{channel_named, variable_named, read_value, read_set, read_send, read_receive, read_stopch, read_plain, read_branch, read_while, read_count, read_guard, field_word, worded_process, named_process, process_step, read_process, whole_process}
 use Rattle.vc_reader.specs.Reading.{◌>>=◌, wrong, under, cell, read_list, count, is_word, read_number, only, by_only}
 use Rattle.vc_reader.specs.Words.{word_text}
-use Rattle.vc_reader.proofs.Leading.{IsTold, here, ok_told, kind_told, then_told, under_told, list_told, cell_told, row_told, text_told, if_told, number_told, one_of_told, first_member}
+use Rattle.vc_reader.proofs.FaultPaths.{IsTold, here, ok_told, kind_told, then_told, under_told, list_told, cell_told, row_told, text_told, if_told, number_told, one_of_told, first_member}
 use Rattle.vc_reader.proofs.Read.{then_ok}
 use Rattle.vc_reader.proofs.Told.{cell_then}
 

@@ -30,7 +30,7 @@ use Rattle.vc_stats.specs.declared.occupancy.Occupancy.{Occupancy}
 use Rattle.vc_stats.specs.declared.state_figures.WayFigures.{WayFigures}
 use Rattle.vc_stats.proofs.Busy.{numbered}
 use Rattle.vc_stats.proofs.Numbers.{range_more}
-use Rattle.vc_stats.proofs.Visiting.{as_many, leads_more}
+use Rattle.vc_stats.proofs.Visits.{as_many, leads_more}
 
 -- one event more
 pub monitor_more : (p : Plan) (old new : Monitor) (es : List Event) (s t : State) (e : Event) → Monitors old p es (shown s) → MakesEvent p s e t →

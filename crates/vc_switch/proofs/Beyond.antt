@@ -10,10 +10,10 @@ use Rattle.vc_packets.specs.Functions.{shown_or}
 use Rattle.vc_switch.specs.SwitchView.{seen, input_of}
 use Rattle.vc_switch.specs.declared.link_in.LinkIn.{LinkIn}
 use Rattle.vc_switch.specs.declared.link_out.LinkOut.{LinkOut}
-use Rattle.vc_switch.proofs.Enabling.{free_iff, grant_iff, waits_by}
+use Rattle.vc_switch.proofs.Enablement.{free_iff, grant_iff, waits_by}
 use Rattle.vc_switch.proofs.Fronts.{gone}
-use Rattle.vc_switch.proofs.Placed.{some_at}
-use Rattle.vc_switch.proofs.Showing.{bound_is}
+use Rattle.vc_switch.proofs.ListWrites.{some_at}
+use Rattle.vc_switch.proofs.ListChanges.{bound_is}
 
 pub is_link : {X : Type 0} (xs : List X) (l : ℕ) (x : X) → length xs ≡ 32 → slice_get xs l ≡ Some x → l < 32
 is_link xs l x long here = subst (λ n. l < n) long (slice_get_within xs l x here)

@@ -4,7 +4,7 @@ use Rattle.std.proofs.lemmas.List.{map-append}
 use Rattle.vc_plan.specs.declared.channel.Channel.{Channel}
 use Rattle.vc_plan.specs.declared.plan.Plan.{Plan}
 use Rattle.vc_core.specs.PossibleEvents.{NetworkState}
-use Rattle.vc_core.proofs.Replayed.{take_more, all_taken}
+use Rattle.vc_core.proofs.ReplayRuns.{take_more, all_taken}
 use Rattle.vc_text.specs.ChannelStates.{channel_of, channels_from, channels_of}
 use Rattle.vc_text.specs.Views.{shown}
 use Rattle.vc_text.specs.declared.traffic.ChannelView.{ChannelView}

@@ -24,7 +24,7 @@ use Rattle.vc_core.specs.Replay.{Reached}
 use Rattle.vc_core.specs.State.{State, event_of, shown}
 use Rattle.vc_core.specs.StepsInARow.{MakesSteps}
 use Rattle.vc_core.specs.declared.event.Event.{Event}
-use Rattle.vc_core.proofs.Replayed.{happen_more}
+use Rattle.vc_core.proofs.ReplayRuns.{happen_more}
 
 -- the events that they are
 unfoldable pub events_by : {plan : network.Plan} {k m : ℕ} {a b : net.Actor Process} → actor.RestsOn plan k m a b → List Event

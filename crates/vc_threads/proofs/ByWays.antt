@@ -5,8 +5,8 @@ use Rattle.std.proofs.lemmas.Bool.{cases_eq, ne_eqb}
 use Rattle.std.proofs.lemmas.List.{map-append}
 use Rattle.vc_accepted.specs.NetworkOf.{network_of}
 use Rattle.vc_accepted.specs.ActorWays.{link_port, outgoing, incoming}
-use Rattle.vc_accepted.proofs.Crossing.{Joins, joined_way, way_of}
-use Rattle.vc_accepted.proofs.Wired.{link_is_at, wired, outgoing_is, incoming_is}
+use Rattle.vc_accepted.proofs.Across.{Joins, joined_way, way_of}
+use Rattle.vc_accepted.proofs.WayPorts.{link_is_at, wired, outgoing_is, incoming_is}
 use Rattle.vc_network.specs.Actors.{Label, taken_off, put_on}
 use Rattle.vc_network.specs.Actors.Label.{Own, Takes, Puts}
 use Rattle.vc_network.specs.LocalRun.{Stamped, Turn, LocalRun, CarriesStamp, next_stamp, plain, all_put, all_taken, restamped}

@@ -11,7 +11,7 @@ use Rattle.vc_threads.specs.MergedRuns.{of_pair, numbered}
 use Rattle.vc_threads.specs.Private.MergedRuns.{stamp_at, front_of, id_at, IsNext, NotLater, FindsFirst}
 use Rattle.vc_threads.specs.declared.merged_runs.Front.{Front}
 use Rattle.vc_threads.specs.declared.run.ActorRun.{ActorRun}
-use Rattle.vc_threads.proofs.Weaving.{without}
+use Rattle.vc_threads.proofs.MergeSteps.{without}
 
 -- the first of the next acts of the first n runs
 abbrev pub IsFirst : List ActorRun → List Front → ℕ → Option (ℕ × ℕ) → Type 0

@@ -9,7 +9,7 @@ use Rattle.std.proofs.lemmas.Option.{slice_get-map, get_or_from_slice_get}
 use Rattle.rtrb.specs.Ring.{sent, received, known_items}
 use Rattle.vc_accepted.specs.NetworkOf.{network_of}
 use Rattle.vc_accepted.specs.ActorWays.{actor_of}
-use Rattle.vc_accepted.proofs.Listed.{both}
+use Rattle.vc_accepted.proofs.Elements.{both}
 use Rattle.vc_network.specs.Actors.{Label, Steps, put_on}
 use Rattle.vc_network.specs.Actors.Label.{Own, Takes, Puts}
 use Rattle.vc_network.specs.LocalRun as local
@@ -39,9 +39,9 @@ use Rattle.vc_threads.specs.declared.link.Stamped.{Stamped}
 use Rattle.vc_threads.specs.declared.order.AllEnds.{AllEnds}
 use Rattle.vc_threads.specs.declared.run.ActorRun.{ActorRun}
 use Rattle.vc_threads.specs.declared.run.Stop.TheVariants.{Clock}
-use Rattle.vc_threads.proofs.Looking.{before, after}
-use Rattle.vc_threads.proofs.Ordered.{sends, receives}
-use Rattle.vc_threads.proofs.Reported.{Did, did, pick, steps_of, stop_is}
+use Rattle.vc_threads.proofs.RingViews.{before, after}
+use Rattle.vc_threads.proofs.EndOrder.{sends, receives}
+use Rattle.vc_threads.proofs.Reports.{Did, did, pick, steps_of, stop_is}
 
 -- some item has the greatest stamp
 abbrev Late : List (local.Stamped Token) → Type 0

@@ -10,7 +10,7 @@ use Rattle.rand_pcg.specs.Lcg.{started, increment_of}
 use Rattle.rand_pcg.specs.Pcg.{multiplier_64}
 use Rattle.rtrb.specs.Ring.{sent, received, SameProducer, SameConsumer}
 use Rattle.vc_network.specs.Actors.Label.{Takes, Puts}
-use Rattle.vc_network.proofs.Merging.{both_lists}
+use Rattle.vc_network.proofs.OneMerge.{both_lists}
 use Rattle.vc_network.specs.LocalRun.{Turn, LocalRun, CarriesStamp, next_stamp, plain, clock_after, all_put, all_taken}
 use Rattle.vc_network.specs.Plan.{Plan}
 use Rattle.vc_tokens.specs.declared.token.Token.{Token}

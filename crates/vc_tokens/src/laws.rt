@@ -13,7 +13,7 @@ pub fn cuttings_agree()
 
 /// However a stream is cut into feeds, the feed that is refused is refused at the first token that breaks the stream, and the packets
 /// before it are those of all feeds.
-#[tactic(auto, using(crate::proofs::Breaking::cut_broken))]
+#[tactic(auto, using(crate::proofs::Breaks::cut_broken))]
 pub fn cuttings_break_alike()
     ensures { CuttingsBreakAlike }
 {}

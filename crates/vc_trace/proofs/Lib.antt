@@ -1,9 +1,9 @@
+pub mod DistinctNames
+pub mod EventTexts
 pub mod Found
-pub mod Making
-pub mod Naming
-pub mod Parting
-pub mod Passing
-pub mod Replaying
-pub mod Spelling
-pub mod Traced
+pub mod LineWords
+pub mod NameWords
+pub mod Replays
+pub mod RunTexts
+pub mod TextWrites
 pub mod Verbs

@@ -21,7 +21,7 @@ pub(crate) type Piece = ArrayVec<u8, 4096>;
 pub(crate) struct WriteFailed;
 
 // The writer gets a text.
-#[tactic(auto, using(crate::proofs::Passing::front_none))]
+#[tactic(auto, using(crate::proofs::TextWrites::front_none))]
 fn pass<W: Write>(writer: &mut W, text: &[u8]) -> Result<(), WriteFailed>
     ensures ok { OnOk result (Appends (W.contents writer.old) (W.contents writer.new) text.now) }
     ensures err { OnErr result (AppendsFront (W.contents writer.old)
@@ -55,7 +55,7 @@ fn hold(piece: &mut Piece, text: &[u8])
 }
 
 /// A text goes to the end of what the buffer holds, or, where it has not enough room, what it holds goes to the writer first.
-#[tactic(auto, using(crate::proofs::Passing::front_longer, crate::proofs::Passing::front_behind, crate::proofs::Passing::passes_whole))]
+#[tactic(auto, using(crate::proofs::TextWrites::front_longer, crate::proofs::TextWrites::front_behind, crate::proofs::TextWrites::passes_whole))]
 pub(crate) fn put<W: Write>(
     piece: &mut Piece,
     writer: &mut W,

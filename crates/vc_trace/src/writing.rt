@@ -49,7 +49,7 @@ fn put_steps<W: Write>(
 }
 
 // A text, and then nothing is left in the buffer.
-#[tactic(auto, using(crate::proofs::Passing::passes_all, crate::proofs::Passing::passes_front, crate::proofs::Passing::front_longer, crate::proofs::Passing::front_none))]
+#[tactic(auto, using(crate::proofs::TextWrites::passes_all, crate::proofs::TextWrites::passes_front, crate::proofs::TextWrites::front_longer, crate::proofs::TextWrites::front_none))]
 fn put_last<W: Write>(piece: &mut Piece, writer: &mut W, text: &[u8]) -> Result<(), WriteFailed>
     ensures ok { OnOk result (Appends (W.contents writer.old)
         (W.contents writer.new) (piece.old.items ++ text.now)) }

@@ -8,8 +8,8 @@ use Rattle.vc_packets.specs.Functions.{shown_or}
 use Rattle.vc_vcp.specs.LinkIn.{Receiving}
 use Rattle.vc_vcp.specs.VcpView.{seen, ends_of, carrier_of, link_of}
 use Rattle.vc_vcp.specs.State.{State, IsWired, MayPut, MayGrant, limit_of}
-use Rattle.vc_vcp.proofs.Arriving.{waits_for}
-use Rattle.vc_vcp.proofs.Enabling.{grant_iff}
+use Rattle.vc_vcp.proofs.Arrivals.{waits_for}
+use Rattle.vc_vcp.proofs.Enablement.{grant_iff}
 
 -- what is sought by a number that may be past the end
 pub got : {X : Type 0} (xs ys : List X) (j i : ℕ) (x : X) → ys ≡ xs → j ≡ i → true ≡ ltb j (length ys) → x ≡ get_or ys j x → slice_get xs i ≡ Some x

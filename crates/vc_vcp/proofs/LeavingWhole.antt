@@ -11,8 +11,8 @@ use Rattle.vc_vcp.specs.Links.{LeavesWhole}
 use Rattle.vc_vcp.specs.VcpView.{seen, carrier_of, link_of}
 use Rattle.vc_vcp.specs.State.{State}
 use Rattle.vc_vcp.proofs.Beyond.{queue_past}
-use Rattle.vc_vcp.proofs.Placed.{put_back, set_back}
-use Rattle.vc_vcp.proofs.Showing.{seen-out}
+use Rattle.vc_vcp.proofs.ListWrites.{put_back, set_back}
+use Rattle.vc_vcp.proofs.ListChanges.{seen-out}
 
 pub leaves_whole : (s : State) (l : ℕ) (x y : Sending) (p : Packet) → slice_get s.outs l ≡ Some x → FrontLeavesWhole x p y → LeavesWhole (seen s) l p (seen (record s { outs = slice_set s.outs l y }))
 leaves_whole s l x y p here h =

@@ -1,4 +1,4 @@
-pub mod Blocking
-pub mod Folded
-pub mod Meaning
-pub mod Placed
+pub mod BlockWords
+pub mod Folds
+pub mod Meanings
+pub mod PacketPlaces

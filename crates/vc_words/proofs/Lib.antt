@@ -1,5 +1,5 @@
 pub mod Numbers
-pub mod Asked
+pub mod Questions
 pub mod Examples
 pub mod Flags
-pub mod Defined
+pub mod Commands

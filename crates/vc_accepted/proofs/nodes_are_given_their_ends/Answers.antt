@@ -1,5 +1,5 @@
 -- The lemmas.
-use Rattle.vc_accepted.proofs.Giving.{given_ends, given_distinct}
+use Rattle.vc_accepted.proofs.NodeEnds.{given_ends, given_distinct}
 use Rattle.vc_accepted.proofs.nodes_are_given_their_ends.Goals as goal
 
 pub returns-clause-ends : goal.returns-clause-ends

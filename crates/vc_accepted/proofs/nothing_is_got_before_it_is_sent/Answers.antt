@@ -1,4 +1,4 @@
-use Rattle.vc_accepted.proofs.Sending.{nothing_unsent}
+use Rattle.vc_accepted.proofs.Causality.{nothing_unsent}
 use Rattle.vc_accepted.proofs.nothing_is_got_before_it_is_sent.Goals as goal
 
 pub returns : goal.returns

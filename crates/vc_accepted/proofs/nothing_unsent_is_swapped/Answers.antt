@@ -1,4 +1,4 @@
-use Rattle.vc_accepted.proofs.Swapped.{nothing_swapped}
+use Rattle.vc_accepted.proofs.InputsFirst.{nothing_swapped}
 use Rattle.vc_accepted.proofs.nothing_unsent_is_swapped.Goals as goal
 
 pub returns : goal.returns

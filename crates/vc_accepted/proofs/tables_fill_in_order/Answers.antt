@@ -1,5 +1,5 @@
 -- The lemmas.
-use Rattle.vc_accepted.proofs.Filling.{channel_next, wire_next}
+use Rattle.vc_accepted.proofs.Tables.{channel_next, wire_next}
 use Rattle.vc_accepted.proofs.tables_fill_in_order.Goals as goal
 
 pub returns-clause-channels : goal.returns-clause-channels

@@ -1,5 +1,5 @@
 -- The lemmas.
-use Rattle.vc_accepted.proofs.Wired.{outgoing_is, incoming_is}
+use Rattle.vc_accepted.proofs.WayPorts.{outgoing_is, incoming_is}
 use Rattle.vc_accepted.proofs.ways_are_found_by_their_links.Goals as goal
 
 pub returns-clause-out : goal.returns-clause-out

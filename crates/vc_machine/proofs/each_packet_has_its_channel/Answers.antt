@@ -1,4 +1,4 @@
-use Rattle.vc_machine.proofs.Owned.{paths_reach}
+use Rattle.vc_machine.proofs.Ownership.{paths_reach}
 use Rattle.vc_machine.proofs.each_packet_has_its_channel.Goals as goal
 
 pub returns-clause-paths : goal.returns-clause-paths

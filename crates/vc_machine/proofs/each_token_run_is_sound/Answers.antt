@@ -2,7 +2,7 @@
 use Rattle.std.proofs.Common.{◌+◌, ◌*◌}
 use Rattle.vc_machine.specs.Private.Laws.{FitsWay}
 use Rattle.vc_machine.proofs.Limits.{sound}
-use Rattle.vc_machine.proofs.Fitting.{limits, all_fit}
+use Rattle.vc_machine.proofs.PacketSizes.{limits, all_fit}
 use Rattle.vc_machine.proofs.each_token_run_is_sound.Goals as goal
 
 pub returns : goal.returns

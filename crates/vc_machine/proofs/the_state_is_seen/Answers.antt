@@ -1,4 +1,4 @@
-use Rattle.vc_machine.proofs.Reading.{seen_is}
+use Rattle.vc_machine.proofs.Functional.{seen_is}
 use Rattle.vc_machine.proofs.the_state_is_seen.Goals as goal
 
 pub returns : goal.returns

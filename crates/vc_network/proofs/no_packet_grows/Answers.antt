@@ -1,6 +1,6 @@
 -- The lemma for every kind of process, at processes told by a test.
 use Rattle.vc_network.specs.Processes.{by_test}
-use Rattle.vc_network.proofs.Crediting.{bodies_fit}
+use Rattle.vc_network.proofs.CreditSum.{bodies_fit}
 use Rattle.vc_network.proofs.no_packet_grows.Goals as goal
 
 pub returns : goal.returns

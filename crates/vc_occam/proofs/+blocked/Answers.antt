@@ -7,7 +7,7 @@ use Rattle.vc_occam.specs.Frames.{all_sound, besides, view}
 use Rattle.vc_occam.specs.Remains.{Rest}
 use Rattle.vc_occam.specs.Private.Frames.{task_views}
 use Rattle.vc_process.specs.Terms.{store}
-use Rattle.vc_process.proofs.Reaching.{adds_same}
+use Rattle.vc_process.proofs.Walks.{adds_same}
 use Rattle.vc_occam.proofs.Innermost.{same_blocked}
 use Rattle.vc_occam.proofs.Pars.{par_rest, par_sound, sound_at}
 use Rattle.vc_occam.proofs.SideBySide.{beside_blocked, listed_end, listed_next}

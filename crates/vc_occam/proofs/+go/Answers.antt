@@ -23,11 +23,11 @@ use Rattle.vc_occam.specs.Frames.{all_sound, bodies, branching, counting, guarde
 use Rattle.vc_occam.specs.Private.Frames.{CanGo, HasNext, HasTurned, Went, counting_shape, place_with, seen_branch, seen_guard, shown, task_views, unstopped, views}
 use Rattle.vc_occam.specs.Private.Sites.{PartsInPreorder}
 use Rattle.vc_occam.proofs.Abreast.{par_goes, par_part, par_preorder, par_went, part_there, tasks_still_sound}
-use Rattle.vc_occam.proofs.Acted.{frame_can, index_there, rolled_went, sound_as}
+use Rattle.vc_occam.proofs.SiteActs.{frame_can, index_there, rolled_went, sound_as}
 use Rattle.vc_occam.proofs.Bodies.{branch_part, branch_went, count_goes, count_part, count_went, guard_part, guard_went, turn_ended, turn_goes, turn_part}
-use Rattle.vc_occam.proofs.Going.{seq_goes, seq_part, seq_sound, seq_went}
+use Rattle.vc_occam.proofs.PartSteps.{seq_goes, seq_part, seq_sound, seq_went}
 use Rattle.vc_occam.proofs.Pars.{task_at}
-use Rattle.vc_occam.proofs.Taking.{map_get}
+use Rattle.vc_occam.proofs.PartChoice.{map_get}
 use Rattle.vc_occam.proofs.+go.Goals as goal
 
 -- a test of a place in a list, and what it says

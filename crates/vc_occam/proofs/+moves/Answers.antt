@@ -8,7 +8,7 @@ use Rattle.vc_occam.specs.Frames.{all_sound, besides, task_view, view}
 use Rattle.vc_occam.specs.Private.Frames.{seen_task, task_views}
 use Rattle.vc_occam.specs.Remains.{Rest}
 use Rattle.vc_process.specs.Terms.{store}
-use Rattle.vc_process.proofs.Reaching.{adds_same}
+use Rattle.vc_process.proofs.Walks.{adds_same}
 use Rattle.vc_occam.proofs.Innermost.{same_own}
 use Rattle.vc_occam.proofs.Outcomes.{nothing_own, quiet_own, task_outcome}
 use Rattle.vc_occam.proofs.Pars.{par_rest, par_sound, sound_at}

@@ -3,7 +3,7 @@ use Rattle.vc_process.specs.InOrder.{number}
 use Rattle.vc_process.specs.Private.InOrder.{number_branch, number_guard}
 use Rattle.vc_process.specs.Numbering.{Numbered, NumberedBranch, NumberedGuard, branch_sites, guard_sites, part_sites}
 use Rattle.vc_process.proofs.Numbers.{number_seq, number_par, number_if, number_while, number_count, number_alt, number_branch_out, number_guard_out}
-use Rattle.vc_process.proofs.Counted.{found_next, found_over, found_all, with_itself, has_a_site, part_sum, branch_sum, guard_sum}
+use Rattle.vc_process.proofs.Counts.{found_next, found_over, found_all, with_itself, has_a_site, part_sum, branch_sum, guard_sum}
 use Rattle.vc_process.proofs.+sites.Goals as goal
 
 pub process::Process::sites-returns-then-most-eq0 : goal.process::Process::sites-returns-then-most-eq0

@@ -1,7 +1,7 @@
 use Rattle.vc_process.specs.InOrder.{number}
 use Rattle.vc_process.specs.Private.InOrder.{number_branch, number_guard}
 use Rattle.vc_process.specs.Numbering.{branch_sites, guard_sites, part_sites}
-use Rattle.vc_process.proofs.Counted.{Found}
+use Rattle.vc_process.proofs.Counts.{Found}
 use Rattle.vc_process.proofs.+sites.Given as goal
 
 abbrev pub invariant-written::sites_of-loop-part : goal.invariant-written::sites_of-loop-part

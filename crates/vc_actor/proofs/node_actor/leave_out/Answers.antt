@@ -1,6 +1,6 @@
 use Rattle.std.proofs.Common.{◌∙◌}
 use Rattle.vc_occam.specs.declared.moves.Move.TheVariants.{Offer}
-use Rattle.vc_actor.proofs.Leaving.{left_here, left_more, left_none}
+use Rattle.vc_actor.proofs.Removal.{left_here, left_more, left_none}
 use Rattle.vc_actor.proofs.node_actor.leave_out.Goals as goal
 
 pub returns-then-site_of-site : goal.returns-then-site_of-site

@@ -2,9 +2,9 @@ use Rattle.std.proofs.Common.{◌≡◌, length, sym, ap, subst, arith}
 use borrow.Author.Count.{falls}
 use Rattle.vc_actor.specs.Begin.{AreFirst, BeginsAs}
 use Rattle.vc_actor.specs.Private.Begin.{AreWaysOf}
-use Rattle.vc_actor.proofs.Beginning.{none_yet, first_more}
-use Rattle.vc_actor.proofs.Carrying.{few_nodes}
-use Rattle.vc_actor.proofs.Gathering.{stands_at}
+use Rattle.vc_actor.proofs.OpeningState.{none_yet, first_more}
+use Rattle.vc_actor.proofs.ChannelWays.{few_nodes}
+use Rattle.vc_actor.proofs.Collection.{stands_at}
 use Rattle.vc_actor.proofs.plan_actors.add_nodes.Goals as goal
 
 pub loop-i-init : goal.loop-i-init

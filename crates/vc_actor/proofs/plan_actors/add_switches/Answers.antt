@@ -2,8 +2,8 @@ use Rattle.std.proofs.Common.{◌≡◌, ◌+◌, length, sym, ap, subst, arith}
 use borrow.Author.Count.{falls}
 use Rattle.vc_actor.specs.Begin.{AreFirst, BeginsAs}
 use Rattle.vc_actor.specs.Private.Begin.{IsBuilt}
-use Rattle.vc_actor.proofs.Beginning.{first_more, switch_begins}
-use Rattle.vc_actor.proofs.Gathering.{stands_at}
+use Rattle.vc_actor.proofs.OpeningState.{first_more, switch_begins}
+use Rattle.vc_actor.proofs.Collection.{stands_at}
 use Rattle.vc_actor.proofs.SwitchGiven.{given_links, given_ranges, given_table}
 use Rattle.vc_actor.proofs.plan_actors.add_switches.Goals as goal
 

@@ -9,11 +9,11 @@ use Rattle.vc_vcp.specs.Opening.{AreDistinct}
 use Rattle.vc_vcp.specs.VcpView.{seen, ends_of}
 use Rattle.vc_vcp.specs.State.{State, limit_of}
 use Rattle.vc_accepted.specs.NodeEnds.{ends_of_node}
-use Rattle.vc_accepted.proofs.Giving.{given_small, given_distinct}
+use Rattle.vc_accepted.proofs.NodeEnds.{given_small, given_distinct}
 use Rattle.vc_accepted.specs.Begin.{numbers_inside}
 use Rattle.vc_actor.specs.Private.Inside.{opened_inside}
-use Rattle.vc_actor.proofs.Beginning.{begins}
-use Rattle.vc_actor.proofs.Carrying.{ends_are, few_channels}
+use Rattle.vc_actor.proofs.OpeningState.{begins}
+use Rattle.vc_actor.proofs.ChannelWays.{ends_are, few_channels}
 use Rattle.vc_actor.proofs.WithinLimits.{node_runs}
 use Rattle.vc_actor.proofs.plan_actors.build_node.Goals as goal
 

@@ -2,7 +2,7 @@ use Rattle.std.proofs.Common.{◌<◌, length, get_or, refl, ap, ◌∙◌, subs
 use borrow.Author.Count.{falls}
 use Rattle.vc_accepted.specs.NodeEnds.{ends_among}
 use Rattle.vc_actor.specs.Private.Begin.{on_link}
-use Rattle.vc_actor.proofs.Gathering.{gathered_all, ends_more}
+use Rattle.vc_actor.proofs.Collection.{gathered_all, ends_more}
 use Rattle.vc_actor.proofs.plan_actors.ends_of.Goals as goal
 
 pub loop-i-init : goal.loop-i-init

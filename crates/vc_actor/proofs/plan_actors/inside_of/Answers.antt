@@ -2,7 +2,7 @@ use Rattle.std.proofs.Common.{◌≡◌, ◌∙◌, true, false, rules, length, 
 use borrow.Author.Count.{falls}
 use Rattle.std.proofs.lemmas.List.{append-nil}
 use Rattle.vc_accepted.specs.Begin.{is_inside, numbers_inside}
-use Rattle.vc_actor.proofs.Gathering.{gathered_all, number_more}
+use Rattle.vc_actor.proofs.Collection.{gathered_all, number_more}
 use Rattle.vc_actor.proofs.plan_actors.inside_of.Goals.{then-eq+in_ok-push, else-eq}
 use Rattle.vc_actor.proofs.plan_actors.inside_of.Goals as goal
 

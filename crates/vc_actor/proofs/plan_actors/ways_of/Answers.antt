@@ -4,8 +4,8 @@ use Rattle.std.proofs.Math.ListN.{replicate}
 use Rattle.std.proofs.lemmas.List.{length-replicate, take_all}
 use Rattle.vc_accepted.specs.NodeEnds.{first_on}
 use Rattle.vc_actor.specs.Private.Begin.{empty_ways, on_link}
-use Rattle.vc_actor.proofs.Carrying.{few_channels, none_carried, next_long, next_tells}
-use Rattle.vc_actor.proofs.Gathering.{stands_at}
+use Rattle.vc_actor.proofs.ChannelWays.{few_channels, none_carried, next_long, next_tells}
+use Rattle.vc_actor.proofs.Collection.{stands_at}
 use Rattle.vc_actor.proofs.plan_actors.ways_of.Goals as goal
 
 pub loop-chan-init : goal.loop-chan-init

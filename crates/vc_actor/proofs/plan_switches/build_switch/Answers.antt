@@ -2,7 +2,7 @@ use Rattle.std.proofs.Common.{◌≡◌, ◌<◌, nat_le, sym, ap, ◌∙◌, su
 use Rattle.std.specs.List.{AllByRecursion, list_all}
 use Rattle.vc_plan.specs.declared.switch_plan.RandomInput.{RandomInput}
 use Rattle.vc_switch.specs.Opening.{IsRandomInput}
-use Rattle.vc_accepted.proofs.Listed.{both}
+use Rattle.vc_accepted.proofs.Elements.{both}
 use Rattle.vc_actor.specs.Private.Begin.{ranges_given}
 use Rattle.vc_actor.proofs.SwitchGiven.{links_small, ranges_fit, built}
 use Rattle.vc_actor.proofs.plan_switches.build_switch.Goals as goal

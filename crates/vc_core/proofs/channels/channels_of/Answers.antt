@@ -5,7 +5,7 @@ use Rattle.vc_plan.specs.declared.plan.Plan.{Plan}
 use Rattle.vc_network.specs.Plan as network
 use Rattle.vc_network.specs.Views.{source_node, sink_node}
 use Rattle.vc_accepted.specs.NetworkOf.{network_of, home_in}
-use Rattle.vc_accepted.proofs.Listed.{made_at}
+use Rattle.vc_accepted.proofs.Elements.{made_at}
 use Rattle.vc_core.specs.Channels.{IsChannelOf, ends_at}
 use Rattle.vc_core.specs.Private.Channels.{IsInfoOf}
 use Rattle.vc_core.specs.declared.channels.ChannelInfo.{ChannelInfo}

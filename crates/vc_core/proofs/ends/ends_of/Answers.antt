@@ -4,7 +4,7 @@ use Rattle.std.proofs.lemmas.Option.{slice_get-get_or}
 use Rattle.vc_plan.specs.declared.port.Wire.{Wire}
 use Rattle.vc_plan.specs.declared.port.Spot.TheVariants.{Node}
 use Rattle.vc_core.specs.Private.Wiring.{end_at, ends_of}
-use Rattle.vc_core.proofs.Leading.{ends_more}
+use Rattle.vc_core.proofs.WaysOut.{ends_more}
 use Rattle.vc_core.proofs.ends.ends_of.Goals as goal
 
 -- what is read past the wires

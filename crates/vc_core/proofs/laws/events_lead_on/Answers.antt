@@ -1,5 +1,5 @@
 use Rattle.std.proofs.Common.{[]}
-use Rattle.vc_core.proofs.Replayed.{by_steps, reached_first, reached_next, replays}
+use Rattle.vc_core.proofs.ReplayRuns.{by_steps, reached_first, reached_next, replays}
 use Rattle.vc_core.proofs.laws.events_lead_on.Goals as goal
 
 pub returns : goal.returns

@@ -7,7 +7,7 @@ use Rattle.vc_plan.specs.declared.port.Spot.TheVariants.{Node}
 use Rattle.vc_accepted.specs.ActorWays.{way_out}
 use Rattle.vc_core.specs.Private.OutgoingTable.{left}
 use Rattle.vc_core.specs.Wiring.{out_at}
-use Rattle.vc_core.proofs.Leaving.{are_few, none_leaves, next_long, next_tells}
+use Rattle.vc_core.proofs.WayTable.{are_few, none_leaves, next_long, next_tells}
 use Rattle.vc_core.proofs.outgoing_ways.ways_out.Goals as goal
 
 -- what is read past the wires

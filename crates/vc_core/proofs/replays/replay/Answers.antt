@@ -5,7 +5,7 @@ use Rattle.vc_core.specs.declared.event.Event.{Event}
 use Rattle.std.proofs.lemmas.Option.{slice_get-get_or}
 use Rattle.vc_core.specs.Replay.{Reached, Replays, IsWhyRefused}
 use Rattle.vc_core.specs.State.{state_of}
-use Rattle.vc_core.proofs.Replayed.{reached_first, reached_more, replays, all_taken}
+use Rattle.vc_core.proofs.ReplayRuns.{reached_first, reached_more, replays, all_taken}
 use Rattle.vc_core.proofs.replays.replay.Goals as goal
 
 pub loop-index-init : goal.loop-index-init

@@ -1,8 +1,8 @@
 use Rattle.std.proofs.Common.{◌<◌, sym, ◌∙◌, arith}
 use Rattle.vc_core.specs.Wiring.{out_at, IsWired}
-use Rattle.vc_core.proofs.Leading.{some_wired, wired_some}
-use Rattle.vc_actor.proofs.Turning.{clash}
-use Rattle.vc_core.proofs.Turning.{bit_set, bit_clear}
+use Rattle.vc_core.proofs.WaysOut.{some_wired, wired_some}
+use Rattle.vc_actor.proofs.Turns.{clash}
+use Rattle.vc_core.proofs.Turns.{bit_set, bit_clear}
 use Rattle.vc_core.proofs.rooms.room_of.Goals.{then-is_wired, else-is_wired}
 use Rattle.vc_core.proofs.rooms.room_of.Goals as goal
 

@@ -1,6 +1,6 @@
 use Rattle.std.proofs.Common.{◌∙◌, subst, sym, ◌<◌, arith}
 use Rattle.std.proofs.lemmas.List.{length-set}
-use Rattle.vc_core.proofs.Leading.{rooms_more, rooms_all}
+use Rattle.vc_core.proofs.WaysOut.{rooms_more, rooms_all}
 use Rattle.vc_core.proofs.rooms.rooms_of.Goals as goal
 
 pub loop-actor-preserved : goal.loop-actor-preserved

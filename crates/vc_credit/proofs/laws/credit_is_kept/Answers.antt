@@ -1,4 +1,4 @@
-use Rattle.vc_credit.proofs.Crediting.{credit_kept}
+use Rattle.vc_credit.proofs.CreditSum.{credit_kept}
 use Rattle.vc_credit.proofs.laws.credit_is_kept.Goals as goal
 
 pub returns : goal.returns

@@ -1,8 +1,8 @@
 use Rattle.std.proofs.Common.{sym, subst}
 use Rattle.vc_cycles.specs.Private.Graph.{AreDependencies}
 use Rattle.vc_cycles.specs.Private.Round.{AreRows}
-use Rattle.vc_cycles.proofs.Cycling.{free, least_cycle, none_more, some_more}
-use Rattle.vc_cycles.proofs.Ranked.{rows_are}
+use Rattle.vc_cycles.proofs.Starts.{free, least_cycle, none_more, some_more}
+use Rattle.vc_cycles.proofs.Ranks.{rows_are}
 use Rattle.vc_cycles.proofs.cycle.find_cycle.Goals as goal
 
 pub find_round-requires-clause-rows : goal.find_round-requires-clause-rows

@@ -1,6 +1,6 @@
 use Rattle.std.proofs.Common.{◌<◌, ◌≤◌, length, arith}
 use Rattle.vc_cycles.proofs.Among.{read_at}
-use Rattle.vc_cycles.proofs.Rounding.{away, edge_of, looked, looking_first, no_edge, row_read, row_small}
+use Rattle.vc_cycles.proofs.CycleSearch.{away, edge_of, looked, looking_first, no_edge, row_read, row_small}
 use Rattle.vc_cycles.proofs.Ways.{least_round}
 use Rattle.vc_cycles.proofs.round.find_round.Goals as goal
 

@@ -5,7 +5,7 @@ use Rattle.vc_core.specs.declared.event.Event.{Event}
 use Rattle.vc_draw.specs.State.{IsStateDrawing, IsStateGraph}
 use Rattle.vc_plan.specs.declared.plan.Plan.{Plan}
 use Rattle.vc_text.specs.Streams.{Writes}
-use Rattle.vc_text.proofs.Stepped.{run_unwritten, writes_one}
+use Rattle.vc_text.proofs.StepText.{run_unwritten, writes_one}
 use Rattle.vc_draw.proofs.draw.draw_after.Goals as goal
 
 pub state_graph-requires : goal.state_graph-requires

@@ -1,6 +1,6 @@
 use Rattle.vc_draw.specs.Graph.{graph_text, no_labels}
 use Rattle.vc_plan.specs.declared.plan.Plan.{Plan}
-use Rattle.vc_text.proofs.Checked.{tells_accepted}
+use Rattle.vc_text.proofs.CheckText.{tells_accepted}
 use Rattle.vc_draw.proofs.draw.run_draw.Goals as goal
 
 pub returns : goal.returns

@@ -1,7 +1,7 @@
 use Rattle.vc_draw.specs.State.{IsStateDrawing}
 use Rattle.vc_text.specs.CheckText.{ReadsAccepted}
-use Rattle.vc_text.proofs.Checked.{memory_any}
-use Rattle.vc_text.proofs.Stepped.{writes_by}
+use Rattle.vc_text.proofs.CheckText.{memory_any}
+use Rattle.vc_text.proofs.StepText.{writes_by}
 use Rattle.vc_draw.proofs.draw.run_draw_after.Goals as goal
 
 pub returns : goal.returns

@@ -1,5 +1,5 @@
 use Rattle.vc_explain.proofs.Lawfulness.{nothing_told}
-use Rattle.vc_explain.proofs.Offending.{are_found}
+use Rattle.vc_explain.proofs.Offences.{are_found}
 use Rattle.vc_explain.proofs.laws.offences_are_found.Goals as goal
 
 pub returns-clause-found : goal.returns-clause-found

@@ -1,7 +1,7 @@
 use Rattle.std.proofs.Common.{◌≡◌, ◌++◌, ◌⊎◌, length, inl, inr}
 use Rattle.std.specs.Slice.Iter.{iter_rest}
 use Rattle.vc_explain.specs.Lengths.{lengths_text, vlink_lines}
-use Rattle.vc_explain.proofs.Zipped.{zip-ends}
+use Rattle.vc_explain.proofs.Pairs.{zip-ends}
 use Rattle.vc_explain.proofs.lengths.push_lengths.Goals as goal
 
 pub returns : goal.returns

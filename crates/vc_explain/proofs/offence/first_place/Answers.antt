@@ -4,7 +4,7 @@ use Rattle.vc_process.specs.InOrder.{number}
 use Rattle.vc_reader.specs.declared.path.Step.{Step}
 use Rattle.vc_explain.specs.Offences.{in_par, in_part}
 use Rattle.vc_explain.specs.Uses.{place}
-use Rattle.vc_explain.proofs.Located.{behind_part}
+use Rattle.vc_explain.proofs.Locations.{behind_part}
 use Rattle.vc_explain.proofs.Own.{in_one, in_own, one_opens}
 use Rattle.vc_explain.proofs.Sought.{sought_end, sought_found, sought_next}
 use Rattle.vc_explain.proofs.offence.first_place.Goals as goal

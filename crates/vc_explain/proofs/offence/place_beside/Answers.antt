@@ -1,6 +1,6 @@
 use Rattle.std.proofs.Common.{◌∙◌, map, ap, sym, refl}
 use Rattle.vc_process.specs.InOrder.{number}
-use Rattle.vc_explain.proofs.Located.{behind_part}
+use Rattle.vc_explain.proofs.Locations.{behind_part}
 use Rattle.vc_explain.proofs.Own.{beside_one, beside_own, beside_opens}
 use Rattle.vc_explain.proofs.Sought.{sought_end, sought_found, sought_next}
 use Rattle.vc_explain.proofs.offence.place_beside.Goals as goal

@@ -8,7 +8,7 @@ use Rattle.vc_process.proofs.Numbers.{number_branch_out}
 use Rattle.vc_reader.specs.declared.path.Step.TheVariants.{Field, Index}
 use Rattle.vc_reader.specs.declared.word.Word.TheVariants as word
 use Rattle.vc_explain.specs.Uses.{expression}
-use Rattle.vc_explain.proofs.Located.{behind_branch}
+use Rattle.vc_explain.proofs.Locations.{behind_branch}
 use Rattle.vc_explain.proofs.Own.{conditions_open, in_condition, in_conditions, marks_one}
 use Rattle.vc_explain.proofs.Sought.{sought_end, sought_found, sought_next}
 use Rattle.vc_explain.proofs.place_of_use.wanted_condition.Goals as goal

@@ -9,7 +9,7 @@ use Rattle.vc_process.proofs.Numbers.{number_guard_out}
 use Rattle.vc_reader.specs.declared.path.Step.TheVariants.{Field, Index}
 use Rattle.vc_reader.specs.declared.word.Word.TheVariants as word
 use Rattle.vc_explain.specs.Uses.{change, expression, input, wants}
-use Rattle.vc_explain.proofs.Located.{behind_guard}
+use Rattle.vc_explain.proofs.Locations.{behind_guard}
 use Rattle.vc_explain.proofs.Own.{in_input, in_inputs, inputs_open, marks_three}
 use Rattle.vc_explain.proofs.Sought.{sought_end, sought_found, sought_next}
 use Rattle.vc_explain.proofs.place_of_use.wanted_guard.Goals as goal

@@ -9,7 +9,7 @@ use Rattle.vc_reader.specs.declared.path.Step.{Step}
 use Rattle.vc_reader.specs.declared.path.Step.TheVariants.{Field, Index}
 use Rattle.vc_reader.specs.declared.word.Word.TheVariants as word
 use Rattle.vc_explain.specs.Uses.{first_of, within_branches, within_guards, within_parts}
-use Rattle.vc_explain.proofs.Located.{Found, behind_branch, behind_guard, behind_part, branches_open, found_alt, found_count, found_here, found_if, found_none, found_par, found_seq, found_while, guards_open, in_branch, in_branches, in_guard, in_guards, in_part, in_parts, parts_open}
+use Rattle.vc_explain.proofs.Locations.{Found, behind_branch, behind_guard, behind_part, branches_open, found_alt, found_count, found_here, found_if, found_none, found_par, found_seq, found_while, guards_open, in_branch, in_branches, in_guard, in_guards, in_part, in_parts, parts_open}
 use Rattle.vc_explain.proofs.Sought.{if_ok, sought_end, sought_found, sought_next}
 use Rattle.vc_explain.proofs.search.+search.Goals as goal
 

@@ -1,7 +1,7 @@
 use Rattle.std.proofs.Common.{◌+◌, ◌*◌}
 use Rattle.vc_process.specs.InOrder.{number}
 use Rattle.vc_process.specs.Private.InOrder.{number_branch, number_guard}
-use Rattle.vc_explain.proofs.Located.{in_branches, in_guards, in_parts}
+use Rattle.vc_explain.proofs.Locations.{in_branches, in_guards, in_parts}
 use Rattle.vc_explain.proofs.Sought.{Sought}
 use Rattle.vc_explain.proofs.search.+search.Given as goal
 

@@ -9,7 +9,7 @@ use Rattle.vc_occam.specs.declared.frame.Frame.{Frame}
 use Rattle.vc_occam.specs.Remains.{begin}
 use Rattle.vc_occam.proofs.Views.{view_roll}
 use Rattle.vc_occam.proofs.AtItself.{frame_sound}
-use Rattle.vc_occam.proofs.Beginning.{begun_more, begun_to, begun_whole, par_begins, par_begins_with, plan_out, seq_begins, seq_begins_with, seq_has_first, task_begun, task_sound, view_sound}
+use Rattle.vc_occam.proofs.Starts.{begun_more, begun_to, begun_whole, par_begins, par_begins_with, plan_out, seq_begins, seq_begins_with, seq_has_first, task_begun, task_sound, view_sound}
 use Rattle.vc_occam.proofs.frame.+start.Goals as goal
 
 pub Construct+Frame::start-start-requires : goal.Construct+Frame::start-start-requires

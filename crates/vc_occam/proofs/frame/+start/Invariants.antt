@@ -1,6 +1,6 @@
 use Rattle.std.proofs.Common.{◌≡◌, ◌+◌, ◌*◌}
 use Rattle.vc_occam.specs.Private.Frames.{task_views}
-use Rattle.vc_occam.proofs.Beginning.{begun_to}
+use Rattle.vc_occam.proofs.Starts.{begun_to}
 use Rattle.vc_occam.proofs.frame.+start.Given as goal
 
 abbrev pub invariant-Par+Frame::start-loop-place : goal.invariant-Par+Frame::start-loop-place

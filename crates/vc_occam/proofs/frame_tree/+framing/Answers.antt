@@ -1,13 +1,13 @@
 use Rattle.std.proofs.Common.{◌≡◌, ◌∙◌, ◌+◌, ◌++◌, ◌<◌, [], ◌∷◌, map, drop, length, ap, sym, arith}
 use Rattle.vc_process.specs.InOrder.{number}
 use Rattle.vc_process.specs.Private.InOrder.{number_guard, number_branch}
-use Rattle.vc_process.proofs.Reaching.{drop_at}
+use Rattle.vc_process.proofs.Walks.{drop_at}
 use Rattle.vc_process.specs.Syntax.{SEQ}
 use Rattle.vc_occam.specs.Frames.{outcome_of, plans_of, view}
 use Rattle.vc_occam.specs.Remains.{begin}
 use Rattle.vc_occam.specs.Private.Frames.{shown, task_views, views}
-use Rattle.vc_occam.proofs.Beginning.{task_begun}
-use Rattle.vc_occam.proofs.Making.{all_made, alt_stands, begins_first, begins_still, branches_way, few_guards, guards_way, if_stands, no_part_stands, none_there, one_made, parts_stand, parts_way, some_there, shown_branch, shown_guard, tasks_push, tasks_stand, views_push}
+use Rattle.vc_occam.proofs.Starts.{task_begun}
+use Rattle.vc_occam.proofs.FrameTrees.{all_made, alt_stands, begins_first, begins_still, branches_way, few_guards, guards_way, if_stands, no_part_stands, none_there, one_made, parts_stand, parts_way, some_there, shown_branch, shown_guard, tasks_push, tasks_stand, views_push}
 use Rattle.vc_occam.proofs.frame_tree.+framing.Goals as goal
 use Rattle.vc_occam.proofs.frame_tree.+framing.Goals.{seq_of-then-is_empty, seq_of-else-is_empty}
 

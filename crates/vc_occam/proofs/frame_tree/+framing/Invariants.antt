@@ -5,7 +5,7 @@ use Rattle.vc_process.specs.Syntax.{SEQ}
 use Rattle.vc_occam.specs.Frames.{outcome_of, plans_of}
 use Rattle.vc_occam.specs.Private.Frames.{task_views, views}
 use Rattle.vc_occam.specs.Remains.{begin}
-use Rattle.vc_occam.proofs.Making.{IsMade, branches_way, guards_way, parts_way, shown_branch, shown_guard}
+use Rattle.vc_occam.proofs.FrameTrees.{IsMade, branches_way, guards_way, parts_way, shown_branch, shown_guard}
 use Rattle.vc_occam.proofs.frame_tree.+framing.Given as goal
 
 abbrev pub invariant-seq_of-loop-part : goal.invariant-seq_of-loop-part

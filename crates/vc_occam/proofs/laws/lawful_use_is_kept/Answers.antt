@@ -1,4 +1,4 @@
-use Rattle.vc_occam.proofs.Keeping.{begins, steps_keep_use, doing_keeps_use, doing_is_traced}
+use Rattle.vc_occam.proofs.Preservation.{begins, steps_keep_use, doing_keeps_use, doing_is_traced}
 use Rattle.vc_occam.proofs.laws.lawful_use_is_kept.Goals as goal
 
 pub returns-clause-at_first : goal.returns-clause-at_first

@@ -1,5 +1,5 @@
 use Rattle.vc_process.specs.Usage.{among}
-use Rattle.vc_occam.proofs.Unjoined.{joined_left}
+use Rattle.vc_occam.proofs.NoInnerChannels.{joined_left}
 use Rattle.vc_occam.proofs.meetings.join.Goals as goal
 
 pub returns : goal.returns

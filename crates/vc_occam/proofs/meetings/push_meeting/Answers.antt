@@ -1,5 +1,5 @@
 use Rattle.std.proofs.Common.{◌≡◌, arith}
-use Rattle.vc_occam.proofs.Unjoined.{meets_guard, meets_input}
+use Rattle.vc_occam.proofs.NoInnerChannels.{meets_guard, meets_input}
 use Rattle.vc_occam.proofs.meetings.push_meeting.Goals as goal
 use Rattle.vc_occam.proofs.meetings.push_meeting.Goals.{in-Want, in-Choose}
 

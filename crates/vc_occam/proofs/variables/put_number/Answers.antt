@@ -6,7 +6,7 @@ use Rattle.vc_process.specs.Terms.{store}
 use Rattle.vc_process.specs.declared.datum.Datum.{Datum}
 use Rattle.vc_process.specs.declared.datum.Datum.TheVariants as datum
 use Rattle.vc_occam.specs.Traces.{set}
-use Rattle.vc_occam.proofs.Receiving.{number_received}
+use Rattle.vc_occam.proofs.Receipt.{number_received}
 use Rattle.vc_occam.proofs.variables.put_number.Goals as goal
 
 pub returns-in-Int-clause-value : goal.returns-in-Int-clause-value

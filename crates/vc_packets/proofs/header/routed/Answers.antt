@@ -1,6 +1,6 @@
 use Rattle.std.proofs.Common.{◌∷◌, [], ◌%◌, ◌/◌, ◌<◌, get_or, sym, arith, ◌∙◌, append_assoc, take}
 use Rattle.vc_packets.specs.Headers.{spelled}
-use Rattle.vc_packets.proofs.Spelled.{spelled_more}
+use Rattle.vc_packets.proofs.HeaderBytes.{spelled_more}
 use Rattle.vc_packets.proofs.header.routed.Goals as goal
 
 pub loop-header-preserved : goal.loop-header-preserved

@@ -1,6 +1,6 @@
 use Rattle.std.proofs.Common.{◌*◌, ◌-◌, length, take, drop, arith}
 use Rattle.std.proofs.lemmas.List.{take_rest}
-use Rattle.vc_packets.proofs.Cutting.{packet_of}
+use Rattle.vc_packets.proofs.PieceLists.{packet_of}
 use Rattle.vc_packets.proofs.message.piece.Goals as goal
 use Rattle.vc_packets.proofs.message.piece.Goals.{then-is_last, else-is_last}
 

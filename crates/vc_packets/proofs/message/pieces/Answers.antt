@@ -1,6 +1,6 @@
 use Rattle.std.proofs.Common.{◌∙◌, ◌+◌, ◌/◌, sym, ap}
 use Rattle.vc_packets.specs.Pieces.{piece_count}
-use Rattle.vc_packets.proofs.Cutting.{length-pieces}
+use Rattle.vc_packets.proofs.PieceLists.{length-pieces}
 use Rattle.vc_packets.proofs.message.pieces.Goals as goal
 
 pub returns-clause-pieces : goal.returns-clause-pieces

@@ -4,7 +4,7 @@ use Rattle.vc_packets.specs.declared.memory.Memory.{Memory}
 use Rattle.vc_plan.specs.declared.check_refused.CheckRefused.{CheckRefused}
 use Rattle.vc_plan.specs.declared.plan.Plan.{Plan}
 use Rattle.vc_plan.specs.Private.Check.{PassesUse}
-use Rattle.vc_plan.proofs.Refuting.{only_memory}
+use Rattle.vc_plan.proofs.Refutations.{only_memory}
 use Rattle.vc_plan.proofs.checker.check.Goals as goal
 
 passed : (p : Plan) (found : Result (Option CheckRefused) Memory) → IfOk found (λ f. IfNone f (PassesUse p)) → found ≡ Ok None → PassesUse p

@@ -1,6 +1,6 @@
 use Rattle.std.proofs.Common.{refl}
 use Rattle.vc_plan.specs.Check.{same_block, blocks}
-use Rattle.vc_plan.proofs.Repeated.{asked, found, one-on, at-end, blocks-at}
+use Rattle.vc_plan.proofs.Repeats.{asked, found, one-on, at-end, blocks-at}
 use Rattle.vc_plan.proofs.checker.find_block_twice.Goals as goal
 
 pub returns-then-has_block : goal.returns-then-has_block

@@ -1,6 +1,6 @@
 use Rattle.vc_plan.specs.Wires.{IsWired}
-use Rattle.vc_plan.proofs.Limited.{limits-fit, few-vlinks}
-use Rattle.vc_plan.proofs.Passing.{path-cause}
+use Rattle.vc_plan.proofs.Limits.{limits-fit, few-vlinks}
+use Rattle.vc_plan.proofs.TestOrder.{path-cause}
 use Rattle.vc_plan.proofs.checker.find_cause_of_paths.Goals as goal
 
 pub labelling_fault-requires-clause-limits : goal.labelling_fault-requires-clause-limits

@@ -1,5 +1,5 @@
 use Rattle.std.proofs.Common.{◌∙◌, sym}
-use Rattle.vc_plan.proofs.Limited.{keeps, names-fit, few-nodes, few-vlinks, few-channels}
+use Rattle.vc_plan.proofs.Limits.{keeps, names-fit, few-nodes, few-vlinks, few-channels}
 use Rattle.vc_plan.proofs.checker.find_cause_of_use.Goals as goal
 
 pub find_usage-requires-clause-names : goal.find_usage-requires-clause-names

@@ -1,7 +1,7 @@
 use Rattle.std.proofs.Common.{◌∙◌, sym}
 use Rattle.vc_plan.specs.Check.{PassesBlocks}
-use Rattle.vc_plan.proofs.Limited.{few-switches}
-use Rattle.vc_plan.proofs.Passing.{passes-wires, passes-ports, passes-blocks}
+use Rattle.vc_plan.proofs.Limits.{few-switches}
+use Rattle.vc_plan.proofs.TestOrder.{passes-wires, passes-ports, passes-blocks}
 use Rattle.vc_plan.proofs.checker.find_cause_of_wiring.Goals as goal
 use Rattle.vc_plan.proofs.checker.find_cause_of_wiring.Goals.{In_default-2}
 

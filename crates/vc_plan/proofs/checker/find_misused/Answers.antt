@@ -1,4 +1,4 @@
-use Rattle.vc_plan.proofs.Fitting.{in-byte}
+use Rattle.vc_plan.proofs.SmallPlaces.{in-byte}
 use Rattle.vc_plan.proofs.checker.find_misused.Goals as goal
 
 pub overflow_cast-n : goal.overflow_cast-n

@@ -1,7 +1,7 @@
 use Rattle.std.proofs.Common.{refl}
 use Rattle.vc_plan.specs.Check.{ports}
 use Rattle.vc_plan.specs.Wires.{same_port}
-use Rattle.vc_plan.proofs.Repeated.{asked, found, one-on, at-end, ports-at}
+use Rattle.vc_plan.proofs.Repeats.{asked, found, one-on, at-end, ports-at}
 use Rattle.vc_plan.proofs.checker.find_port_twice.Goals as goal
 
 pub returns-then-has_port : goal.returns-then-has_port

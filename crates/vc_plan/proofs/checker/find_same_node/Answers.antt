@@ -1,7 +1,7 @@
 use Rattle.std.proofs.Common.{◌≢◌, ℕ, arith}
 use Rattle.vc_plan.specs.declared.vlink.Vlink.{Vlink}
-use Rattle.vc_plan.proofs.Fitting.{in-half}
-use Rattle.vc_plan.proofs.Indexed.{there-at, each-more, each-all}
+use Rattle.vc_plan.proofs.SmallPlaces.{in-half}
+use Rattle.vc_plan.proofs.Indices.{there-at, each-more, each-all}
 use Rattle.vc_plan.proofs.checker.find_same_node.Goals as goal
 
 abbrev Differ : ℕ → Vlink → Type 0

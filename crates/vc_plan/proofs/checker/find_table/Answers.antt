@@ -1,7 +1,7 @@
 use Rattle.std.proofs.Common.{◌≡◌, ◌<◌, length, get_or, arith, ap}
 use Rattle.vc_plan.specs.Accepted.{IsLawfulSwitch}
-use Rattle.vc_plan.proofs.Fitting.{in-byte}
-use Rattle.vc_plan.proofs.Indexed.{there-at, each-more, each-all}
+use Rattle.vc_plan.proofs.SmallPlaces.{in-byte}
+use Rattle.vc_plan.proofs.Indices.{there-at, each-more, each-all}
 use Rattle.vc_plan.proofs.checker.find_table.Goals as goal
 use Rattle.vc_plan.proofs.checker.find_table.Goals.{After-fault_of_switch}
 

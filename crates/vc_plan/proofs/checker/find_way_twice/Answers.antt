@@ -1,6 +1,6 @@
 use Rattle.vc_plan.specs.Check.{same_way}
-use Rattle.vc_plan.proofs.Fitting.{in-half}
-use Rattle.vc_plan.proofs.Repeated.{asked, way-found, way-on, way-end}
+use Rattle.vc_plan.proofs.SmallPlaces.{in-half}
+use Rattle.vc_plan.proofs.Repeats.{asked, way-found, way-on, way-end}
 use Rattle.vc_plan.proofs.checker.find_way_twice.Goals as goal
 
 pub returns-then-has_way : goal.returns-then-has_way

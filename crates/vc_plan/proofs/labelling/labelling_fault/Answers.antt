@@ -4,7 +4,7 @@ use Rattle.std.proofs.lemmas.Option.{slice_get_within, slice_get-get_or}
 use Rattle.vc_plan.specs.declared.plan.Plan.{Plan}
 use Rattle.vc_plan.specs.declared.vlink.Vlink.{Vlink}
 use Rattle.vc_plan.specs.Delivery.{IsLabelledLink}
-use Rattle.vc_plan.proofs.Fitting.{in-half}
+use Rattle.vc_plan.proofs.SmallPlaces.{in-half}
 use Rattle.vc_plan.proofs.labelling.labelling_fault.Goals as goal
 
 there-at : (vs : List Vlink) (k : ℕ) (v : Vlink) → k < length vs → v ≡ get_or vs k v → slice_get vs k ≡ Some v

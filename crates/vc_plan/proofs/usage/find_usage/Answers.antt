@@ -3,9 +3,9 @@ use Rattle.vc_process.specs.Lawful.{Lawfully}
 use Rattle.vc_process.specs.Numbering.{written}
 use Rattle.vc_plan.specs.declared.node_plan.NodePlan.{NodePlan}
 use Rattle.vc_plan.specs.Limits.{process_names}
-use Rattle.vc_plan.proofs.Fitting.{in-byte}
-use Rattle.vc_plan.proofs.Indexed.{there-at, each-more, each-all}
-use Rattle.vc_plan.proofs.Limited.{passes}
+use Rattle.vc_plan.proofs.SmallPlaces.{in-byte}
+use Rattle.vc_plan.proofs.Indices.{there-at, each-more, each-all}
+use Rattle.vc_plan.proofs.Limits.{passes}
 use Rattle.vc_plan.proofs.usage.find_usage.Goals as goal
 use Rattle.vc_plan.proofs.usage.find_usage.Goals.{After-usage_of}
 

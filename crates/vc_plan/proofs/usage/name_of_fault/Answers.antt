@@ -4,7 +4,7 @@ use Rattle.vc_process.specs.UseFaults.{IsUseFault}
 use Rattle.vc_process.specs.Numbering.{written}
 use Rattle.vc_plan.specs.declared.node_plan.Variable.{Variable}
 use Rattle.vc_plan.specs.Limits.{kinds_of}
-use Rattle.vc_plan.proofs.Named.{offence_there}
+use Rattle.vc_plan.proofs.Names.{offence_there}
 use Rattle.vc_plan.proofs.usage.name_of_fault.Goals as goal
 
 pub name_of_channel-requires : goal.name_of_channel-requires

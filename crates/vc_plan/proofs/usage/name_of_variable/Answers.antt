@@ -1,6 +1,6 @@
 use Rattle.std.proofs.Common.{◌∙◌, Some, sym, ap}
 use Rattle.vc_plan.specs.Check.{variable_name}
-use Rattle.vc_plan.proofs.Indexed.{there-at}
+use Rattle.vc_plan.proofs.Indices.{there-at}
 use Rattle.vc_plan.proofs.usage.name_of_variable.Goals as goal
 
 pub returns : goal.returns

@@ -1,7 +1,7 @@
 use Rattle.std.proofs.Common.{◌∙◌, ap}
 use Rattle.vc_plan.specs.declared.plan.Plan.{Plan}
 use Rattle.vc_plan.specs.WayLengths.{IsVlinkLength}
-use Rattle.vc_plan.proofs.Arriving.{lengths-more}
+use Rattle.vc_plan.proofs.Arrivals.{lengths-more}
 use Rattle.vc_plan.proofs.vlink_length.vlink_lengths.Goals as goal
 
 pub loop-vlink-preserved : goal.loop-vlink-preserved

@@ -1,8 +1,8 @@
 use Rattle.std.proofs.Common.{◌∙◌, sym, arith}
-use Rattle.vc_plan.proofs.Arriving.{level-arrives, level-passes, level-next, bounds-start, bounds-seen, bounds-passed, bounds-all}
+use Rattle.vc_plan.proofs.Arrivals.{level-arrives, level-passes, level-next, bounds-start, bounds-seen, bounds-passed, bounds-all}
 use Rattle.vc_plan.proofs.Frontier.{frontier-start}
 use Rattle.vc_plan.proofs.KeptLimits.{limits_of}
-use Rattle.vc_plan.proofs.Limited.{limits-fit}
+use Rattle.vc_plan.proofs.Limits.{limits-fit}
 use Rattle.vc_plan.proofs.way_length.length_from.Goals as goal
 use Rattle.vc_plan.proofs.way_length.length_from.Goals.{then-is_any_at_node, else-is_any_at_node}
 

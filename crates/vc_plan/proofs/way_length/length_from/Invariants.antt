@@ -1,4 +1,4 @@
-use Rattle.vc_plan.proofs.Arriving.{BoundsBelow}
+use Rattle.vc_plan.proofs.Arrivals.{BoundsBelow}
 use Rattle.vc_plan.proofs.Frontier.{IsFrontier}
 use Rattle.vc_plan.proofs.way_length.length_from.Given as goal
 

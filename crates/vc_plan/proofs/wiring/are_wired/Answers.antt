@@ -2,7 +2,7 @@ use Rattle.std.proofs.Common.{ℕ}
 use Rattle.std.proofs.lemmas.Option.{slice_get-get_or}
 use Rattle.vc_labels.specs.declared.row.Row.{Row}
 use Rattle.vc_plan.specs.Wires.{IsWiredAction}
-use Rattle.vc_plan.proofs.Indexed.{each-next, one-fails, all-pass}
+use Rattle.vc_plan.proofs.Indices.{each-next, one-fails, all-pass}
 use Rattle.vc_plan.proofs.wiring.are_wired.Goals as goal
 
 pub returns-then-not-is_wired_action : goal.returns-then-not-is_wired_action

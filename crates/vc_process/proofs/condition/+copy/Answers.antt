@@ -2,7 +2,7 @@ use Rattle.std.proofs.Common.{ap, sym, ◌∙◌}
 use Rattle.std.proofs.lemmas.Result.{IfOk-from_err}
 use Rattle.vc_process.specs.declared.condition.Cond.{Cond}
 use Rattle.vc_process.specs.declared.condition.Cond.TheVariants as cond
-use Rattle.vc_process.proofs.Copied.{copied_as, copied_boxed}
+use Rattle.vc_process.proofs.EqualCopies.{copied_as, copied_boxed}
 use Rattle.vc_process.proofs.condition.+copy.Goals as goal
 
 pub Cond::copy-returns-in_err-cond-in-Not : goal.Cond::copy-returns-in_err-cond-in-Not

@@ -5,7 +5,7 @@ use Rattle.vc_process.specs.Numbering.{Numbered, NumberedBranch, NumberedGuard}
 use Rattle.vc_process.specs.ProcessLimits.{depth_within}
 use Rattle.vc_process.proofs.Deep.{deeper, some_depth, all_parts, one_part, behind_part, parts_split, all_branches, one_branch, behind_branch, branches_split, all_guards, one_guard, behind_guard, guards_split}
 use Rattle.vc_process.proofs.Numbers.{number_seq, number_par, number_if, number_while, number_count, number_alt, otherwise, number_branch_out, number_guard_out}
-use Rattle.vc_process.proofs.Reaching.{reaches_next, reaches_false, reaches_end}
+use Rattle.vc_process.proofs.Walks.{reaches_next, reaches_false, reaches_end}
 use Rattle.vc_process.proofs.depth.+depth.Goals as goal
 
 pub parts_within-loop-part-init : goal.parts_within-loop-part-init

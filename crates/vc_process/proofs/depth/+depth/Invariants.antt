@@ -1,7 +1,7 @@
 use Rattle.vc_process.specs.InOrder.{number}
 use Rattle.vc_process.specs.Private.InOrder.{number_branch, number_guard}
 use Rattle.vc_process.proofs.Deep.{all_parts, all_branches, all_guards}
-use Rattle.vc_process.proofs.Reaching.{Reaches}
+use Rattle.vc_process.proofs.Walks.{Reaches}
 use Rattle.vc_process.proofs.depth.+depth.Given as goal
 
 abbrev pub invariant-parts_within-loop-part : goal.invariant-parts_within-loop-part

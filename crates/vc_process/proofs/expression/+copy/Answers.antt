@@ -2,7 +2,7 @@ use Rattle.std.proofs.Common.{ap, sym, ◌∙◌}
 use Rattle.std.proofs.lemmas.Result.{IfOk-from_err}
 use Rattle.vc_process.specs.declared.expression.Expr.{Expr}
 use Rattle.vc_process.specs.declared.expression.Expr.TheVariants as expr
-use Rattle.vc_process.proofs.Copied.{copied_boxed}
+use Rattle.vc_process.proofs.EqualCopies.{copied_boxed}
 use Rattle.vc_process.proofs.expression.+copy.Goals as goal
 
 pub Expr::copy-returns-in_err-left-in-Bin : goal.Expr::copy-returns-in_err-left-in-Bin

@@ -1,4 +1,4 @@
-use Rattle.vc_process.proofs.Judged.{unlawful, only}
+use Rattle.vc_process.proofs.Verdicts.{unlawful, only}
 use Rattle.vc_process.proofs.laws.a_first_offender_refutes.Goals as goal
 
 pub returns-clause-unlawful : goal.returns-clause-unlawful

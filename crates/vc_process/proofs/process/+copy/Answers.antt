@@ -1,6 +1,6 @@
 use Rattle.std.proofs.Common.{sym}
 use Rattle.std.proofs.lemmas.Result.{IfOk-from_err}
-use Rattle.vc_process.proofs.Copied.{copied_as, copied_while, copied_count, copied_boxed, copied_next, copied_all, copied_branch, copied_conditional, copied_guard}
+use Rattle.vc_process.proofs.EqualCopies.{copied_as, copied_while, copied_count, copied_boxed, copied_next, copied_all, copied_branch, copied_conditional, copied_guard}
 use Rattle.vc_process.proofs.process.+copy.Goals as goal
 
 pub copy_body-returns : goal.copy_body-returns

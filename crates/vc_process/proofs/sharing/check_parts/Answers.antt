@@ -7,7 +7,7 @@ use Rattle.vc_process.specs.InOrder.{number}
 use Rattle.vc_process.specs.Lawful.{Offends, SideBySide}
 use Rattle.vc_process.specs.Numbering.{parts_from}
 use Rattle.vc_process.specs.Private.Clashes.{IsFirstClash, Judges}
-use Rattle.vc_process.proofs.Parted.{judged, judges_fault}
+use Rattle.vc_process.proofs.PartPairs.{judged, judges_fault}
 use Rattle.vc_process.proofs.sharing.check_parts.Goals as goal
 
 pub returns-in-Some : goal.returns-in-Some

@@ -3,7 +3,7 @@ use Rattle.std.proofs.Math.Seq.{drop-cons}
 use Rattle.std.proofs.lemmas.List.{drop_all}
 use Rattle.vc_process.specs.declared.used.Used.TheVariants.{Output}
 use Rattle.vc_process.specs.declared.used.PartUsage.{PartUsage}
-use Rattle.vc_process.proofs.Clashing.{Narrowed, at_first, told, none_left, on_next}
+use Rattle.vc_process.proofs.Clashes.{Narrowed, at_first, told, none_left, on_next}
 use Rattle.vc_process.proofs.sharing.first_clash.Goals as goal
 
 abbrev empty : PartUsage

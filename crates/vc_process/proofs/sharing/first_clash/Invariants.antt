@@ -1,5 +1,5 @@
 use Rattle.std.proofs.Common.{drop}
-use Rattle.vc_process.proofs.Clashing.{Narrowed}
+use Rattle.vc_process.proofs.Clashes.{Narrowed}
 use Rattle.vc_process.proofs.sharing.first_clash.Given as goal
 
 abbrev pub invariant-loop-usage : goal.invariant-loop-usage

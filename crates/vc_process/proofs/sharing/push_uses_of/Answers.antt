@@ -2,7 +2,7 @@ use Rattle.std.proofs.Common.{◌++◌, ◌∙◌, sym, ap, map, List}
 use Rattle.vc_process.specs.declared.used.Usage.{Usage}
 use Rattle.vc_process.specs.InOrder.{number}
 use Rattle.vc_process.specs.Private.Usages.{by_part, usages}
-use Rattle.vc_process.proofs.Reaching.{adds_sited}
+use Rattle.vc_process.proofs.Walks.{adds_sited}
 use Rattle.vc_process.proofs.sharing.push_uses_of.Goals as goal
 
 pub returns : goal.returns

@@ -4,7 +4,7 @@ use Rattle.vc_process.specs.declared.used.PartUsage.{PartUsage}
 use Rattle.vc_process.specs.InOrder.{number}
 use Rattle.vc_process.specs.Numbering.{parts_from}
 use Rattle.vc_process.specs.Private.Usages.{part_usages}
-use Rattle.vc_process.proofs.Placed.{placed_next, placed_end}
+use Rattle.vc_process.proofs.PartUses.{placed_next, placed_end}
 use Rattle.vc_process.proofs.sharing.uses_of.Goals as goal
 
 pub loop-place-init : goal.loop-place-init

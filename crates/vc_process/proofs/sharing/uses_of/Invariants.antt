@@ -1,4 +1,4 @@
-use Rattle.vc_process.proofs.Placed.{AddsPlaced}
+use Rattle.vc_process.proofs.PartUses.{AddsPlaced}
 use Rattle.vc_process.proofs.sharing.uses_of.Given as goal
 
 abbrev pub invariant-loop-place : goal.invariant-loop-place

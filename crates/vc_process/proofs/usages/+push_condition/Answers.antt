@@ -1,7 +1,7 @@
 use Rattle.std.proofs.Common.{◌∙◌, ◌++◌, ap, sym}
 use Rattle.vc_process.specs.Terms.{as_test}
 use Rattle.vc_process.specs.Private.Usages.{test_usages}
-use Rattle.vc_process.proofs.Reaching.{adds_more, adds_none, adds_same, not_added}
+use Rattle.vc_process.proofs.Walks.{adds_more, adds_none, adds_same, not_added}
 use Rattle.vc_process.proofs.Trees.{test_always, test_and, test_cmp, test_not, test_or}
 use Rattle.vc_process.proofs.usages.+push_condition.Goals as goal
 

@@ -1,7 +1,7 @@
 use Rattle.std.proofs.Common.{◌∙◌, ◌++◌, ap, sym}
 use Rattle.vc_process.specs.Terms.{exp}
 use Rattle.vc_process.specs.Private.Usages.{exp_usages}
-use Rattle.vc_process.proofs.Reaching.{adds_more, adds_none, adds_same, not_added}
+use Rattle.vc_process.proofs.Walks.{adds_more, adds_none, adds_same, not_added}
 use Rattle.vc_process.proofs.Trees.{exp_bin, exp_num, exp_size, exp_var}
 use Rattle.vc_process.proofs.usages.+push_expression.Goals as goal
 

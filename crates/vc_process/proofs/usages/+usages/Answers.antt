@@ -6,8 +6,8 @@ use Rattle.vc_process.specs.Terms.{exp, as_test}
 use Rattle.vc_process.specs.Private.Usages.{exp_usages, input_usages, test_usages, changing}
 use Rattle.vc_process.specs.declared.used.Used.TheVariants as of
 use Rattle.vc_process.proofs.Numbers.{number_seq, number_par, number_if, number_while, number_count, number_alt, number_set, number_send, number_receive, number_stopch, otherwise, number_branch_out, number_guard_out}
-use Rattle.vc_process.proofs.Listed.{all_parts, one_part, behind_part, parts_join, all_branches, one_branch, behind_branch, branches_join, all_guards, one_guard, behind_guard, guards_join}
-use Rattle.vc_process.proofs.Reaching.{adds_as, adds_both, adds_next, adds_end, adds_none, adds_sited, not_added}
+use Rattle.vc_process.proofs.UseLists.{all_parts, one_part, behind_part, parts_join, all_branches, one_branch, behind_branch, branches_join, all_guards, one_guard, behind_guard, guards_join}
+use Rattle.vc_process.proofs.Walks.{adds_as, adds_both, adds_next, adds_end, adds_none, adds_sited, not_added}
 use Rattle.vc_process.proofs.usages.+usages.Goals as goal
 
 pub push_usages-returns-in-Set : goal.push_usages-returns-in-Set

@@ -1,8 +1,8 @@
 use Rattle.std.proofs.Common.{◌+◌, ◌*◌}
 use Rattle.vc_process.specs.InOrder.{number}
 use Rattle.vc_process.specs.Private.InOrder.{number_branch, number_guard}
-use Rattle.vc_process.proofs.Listed.{all_parts, all_branches, all_guards}
-use Rattle.vc_process.proofs.Reaching.{Adds}
+use Rattle.vc_process.proofs.UseLists.{all_parts, all_branches, all_guards}
+use Rattle.vc_process.proofs.Walks.{Adds}
 use Rattle.vc_process.proofs.process.Process.TheLaws.{the_size}
 use Rattle.vc_process.proofs.usages.+usages.Given as goal
 

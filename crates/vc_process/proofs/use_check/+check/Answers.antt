@@ -10,7 +10,7 @@ use Rattle.vc_process.specs.Numbering.{Numbered, NumberedBranch, NumberedGuard, 
 use Rattle.vc_process.specs.Private.Clashes.{Judges}
 use Rattle.vc_process.specs.Syntax.{PAR, COUNT}
 use Rattle.vc_process.specs.Terms.{exp, as_test}
-use Rattle.vc_process.proofs.Judging.{judges_err, judges_tree, judges_seq, judges_if, judges_while, judges_alt, judges_par, judges_count, comes_next, comes_fault, comes_end, parts_so, parts_first, part_so, part_first, behind_part, parts_go, branches_so, branches_first, branch_so, branch_first, behind_branch, branches_go, guards_so, guards_first, guard_so, guard_first, behind_guard, guards_go}
+use Rattle.vc_process.proofs.Judgements.{judges_err, judges_tree, judges_seq, judges_if, judges_while, judges_alt, judges_par, judges_count, comes_next, comes_fault, comes_end, parts_so, parts_first, part_so, part_first, behind_part, parts_go, branches_so, branches_first, branch_so, branch_first, behind_branch, branches_go, guards_so, guards_first, guard_so, guard_first, behind_guard, guards_go}
 use Rattle.vc_process.proofs.Numbers.{number_seq, number_par, number_if, number_while, number_count, number_alt, otherwise, number_branch_out, number_guard_out}
 use Rattle.vc_process.proofs.use_check.+check.Goals as goal
 

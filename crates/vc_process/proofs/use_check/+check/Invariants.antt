@@ -1,6 +1,6 @@
 use Rattle.vc_process.specs.InOrder.{number}
 use Rattle.vc_process.specs.Private.InOrder.{number_branch, number_guard}
-use Rattle.vc_process.proofs.Judging.{Comes, parts_so, parts_first, branches_so, branches_first, guards_so, guards_first}
+use Rattle.vc_process.proofs.Judgements.{Comes, parts_so, parts_first, branches_so, branches_first, guards_so, guards_first}
 use Rattle.vc_process.proofs.use_check.+check.Given as goal
 
 abbrev pub invariant-check_all-loop-part : goal.invariant-check_all-loop-part

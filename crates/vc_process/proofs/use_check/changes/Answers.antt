@@ -1,7 +1,7 @@
 use Rattle.std.proofs.Common.{◌≡◌, ◌∙◌, Bool, true, false, not, ap, refl, []}
 use Rattle.vc_process.specs.InOrder.{number}
 use Rattle.vc_process.specs.Usage.{changes}
-use Rattle.vc_process.proofs.Answered.{keeps_is}
+use Rattle.vc_process.proofs.Questions.{keeps_is}
 use Rattle.vc_process.proofs.use_check.changes.Goals as goal
 
 not_not : (b : Bool) → not (not b) ≡ b

@@ -4,8 +4,8 @@ use Rattle.vc_process.specs.Numbering.{written}
 use Rattle.vc_process.specs.Private.Clashes.{Judges}
 use Rattle.vc_process.specs.Syntax.{Proc}
 use Rattle.vc_process.proofs.Numbers.{written_is}
-use Rattle.vc_process.proofs.Judged.{exact_use}
-use Rattle.vc_process.proofs.Judging.{judges_use}
+use Rattle.vc_process.proofs.Verdicts.{exact_use}
+use Rattle.vc_process.proofs.Judgements.{judges_use}
 use Rattle.vc_process.proofs.use_check.check_use.Goals as goal
 use Rattle.vc_process.proofs.use_check.check_use.Goals.{After-check_process}
 

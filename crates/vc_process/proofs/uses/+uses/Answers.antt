@@ -3,9 +3,9 @@ use Rattle.vc_process.specs.ChannelUses.{channel_uses}
 use Rattle.vc_process.specs.InOrder.{number}
 use Rattle.vc_process.specs.Private.InOrder.{number_branch, number_guard}
 use Rattle.vc_process.specs.Numbering.{Numbered, NumberedBranch, NumberedGuard}
-use Rattle.vc_process.proofs.Using.{all_parts, one_part, behind_part, parts_join, all_branches, one_branch, behind_branch, branches_join, all_guards, one_guard, behind_guard, guards_join, all_alternatives, all_inputs, input_of, output_of}
+use Rattle.vc_process.proofs.ChannelUses.{all_parts, one_part, behind_part, parts_join, all_branches, one_branch, behind_branch, branches_join, all_guards, one_guard, behind_guard, guards_join, all_alternatives, all_inputs, input_of, output_of}
 use Rattle.vc_process.proofs.Numbers.{number_seq, number_par, number_if, number_count, number_alt, number_send, number_receive, number_stopch, otherwise, number_branch_out, number_guard_out}
-use Rattle.vc_process.proofs.Reaching.{adds_as, adds_along, adds_next, adds_end, adds_none, adds_sited}
+use Rattle.vc_process.proofs.Walks.{adds_as, adds_along, adds_next, adds_end, adds_none, adds_sited}
 use Rattle.vc_process.proofs.uses.+uses.Goals as goal
 
 pub push_uses-returns-in-Send : goal.push_uses-returns-in-Send

@@ -1,7 +1,7 @@
 use Rattle.vc_process.specs.InOrder.{number}
 use Rattle.vc_process.specs.Private.InOrder.{number_branch, number_guard}
-use Rattle.vc_process.proofs.Using.{all_parts, all_branches, all_guards}
-use Rattle.vc_process.proofs.Reaching.{Adds}
+use Rattle.vc_process.proofs.ChannelUses.{all_parts, all_branches, all_guards}
+use Rattle.vc_process.proofs.Walks.{Adds}
 use Rattle.vc_process.proofs.uses.+uses.Given as goal
 
 abbrev pub invariant-push_parts-loop-part : goal.invariant-push_parts-loop-part

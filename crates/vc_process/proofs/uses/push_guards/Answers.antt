@@ -2,9 +2,9 @@ use Rattle.std.proofs.Common.{◌∙◌, ◌++◌, [], ◌∷◌, map, sym, ap, 
 use Rattle.vc_process.specs.ChannelUses.{inputs_on}
 use Rattle.vc_process.specs.Private.InOrder.{number_guard}
 use Rattle.vc_process.specs.Numbering.{NumberedGuard}
-use Rattle.vc_process.proofs.Using.{all_inputs, one_input, behind_input, inputs_join}
+use Rattle.vc_process.proofs.ChannelUses.{all_inputs, one_input, behind_input, inputs_join}
 use Rattle.vc_process.proofs.Numbers.{number_guard_out}
-use Rattle.vc_process.proofs.Reaching.{adds_next, adds_end}
+use Rattle.vc_process.proofs.Walks.{adds_next, adds_end}
 use Rattle.vc_process.proofs.uses.push_guards.Goals as goal
 
 pub loop-guard-init : goal.loop-guard-init

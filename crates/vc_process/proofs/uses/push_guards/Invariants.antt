@@ -1,6 +1,6 @@
 use Rattle.vc_process.specs.Private.InOrder.{number_guard}
-use Rattle.vc_process.proofs.Using.{all_inputs}
-use Rattle.vc_process.proofs.Reaching.{Adds}
+use Rattle.vc_process.proofs.ChannelUses.{all_inputs}
+use Rattle.vc_process.proofs.Walks.{Adds}
 use Rattle.vc_process.proofs.uses.push_guards.Given as goal
 
 abbrev pub invariant-loop-guard : goal.invariant-loop-guard

@@ -1,4 +1,4 @@
-use Rattle.vc_reader.proofs.Keeping.{limits_kept}
+use Rattle.vc_reader.proofs.FirstLimit.{limits_kept}
 use Rattle.vc_reader.proofs.laws.four_limits_refuse_no_file.Goals as goal
 
 pub returns : goal.returns

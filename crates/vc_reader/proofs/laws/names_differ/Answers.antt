@@ -1,4 +1,4 @@
-use Rattle.vc_reader.proofs.Differing.{names_differ}
+use Rattle.vc_reader.proofs.DistinctNames.{names_differ}
 use Rattle.vc_reader.proofs.laws.names_differ.Goals as goal
 
 pub returns : goal.returns

@@ -1,5 +1,5 @@
 use Rattle.std.proofs.lemmas.Result.{err_from_is_err_and}
-use Rattle.vc_reader.proofs.Listed.{list_next, list_stops, list_ends}
+use Rattle.vc_reader.proofs.Lists.{list_next, list_stops, list_ends}
 use Rattle.vc_reader.proofs.reader.list.Goals as goal
 
 pub loop-item-preserved : goal.loop-item-preserved

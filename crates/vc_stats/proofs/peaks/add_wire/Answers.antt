@@ -1,6 +1,6 @@
 use Rattle.std.proofs.Common.{refl}
 use Rattle.std.proofs.lemmas.Result.{on_ok_weaker}
-use Rattle.vc_stats.proofs.Lined.{ways_more}
+use Rattle.vc_stats.proofs.WayRows.{ways_more}
 use Rattle.vc_stats.proofs.peaks.add_wire.Goals as goal
 
 pub returns : goal.returns

@@ -4,7 +4,7 @@ use Rattle.vc_core.specs.State.{shown, state_of}
 use Rattle.vc_plan.specs.declared.plan.Plan.{Plan}
 use Rattle.vc_text.specs.RunText.{RunText, WritesRun}
 use Rattle.vc_text.specs.Streams.{Writes}
-use Rattle.vc_text.proofs.Stepped.{handed_on, run_unwritten, writes_one}
+use Rattle.vc_text.proofs.StepText.{handed_on, run_unwritten, writes_one}
 use Rattle.vc_stats.specs.Counts.{AreCounts, most_events}
 use Rattle.vc_stats.specs.Texts.{IsCountedText, IsStatsText}
 use Rattle.vc_stats.specs.Monitor.{IsMonitorOf, Monitors, figures}

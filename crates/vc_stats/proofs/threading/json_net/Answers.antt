@@ -2,9 +2,9 @@ use Rattle.std.proofs.Common.{Err, rules, subst, sym}
 use Rattle.vc_core.specs.State.{shown, state_of}
 use Rattle.vc_text.specs.Streams.{Writes}
 use Rattle.vc_text.specs.ThreadsText.{WritesThreads}
-use Rattle.vc_text.proofs.Checked.{memory_any}
-use Rattle.vc_text.proofs.Stepped.{handed_on, writes_one}
-use Rattle.vc_text.proofs.Threaded.{threads_unwritten}
+use Rattle.vc_text.proofs.CheckText.{memory_any}
+use Rattle.vc_text.proofs.StepText.{handed_on, writes_one}
+use Rattle.vc_text.proofs.ThreadText.{threads_unwritten}
 use Rattle.vc_stats.specs.Texts.{IsTrafficJson}
 use Rattle.vc_stats.proofs.threading.json_net.Goals as goal
 

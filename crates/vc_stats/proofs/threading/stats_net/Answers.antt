@@ -4,9 +4,9 @@ use Rattle.vc_plan.specs.declared.plan.Plan.{Plan}
 use Rattle.vc_text.specs.RunText.{RunText}
 use Rattle.vc_text.specs.Streams.{Writes}
 use Rattle.vc_text.specs.ThreadsText.{WritesThreads}
-use Rattle.vc_text.proofs.Checked.{memory_any}
-use Rattle.vc_text.proofs.Stepped.{handed_on, writes_one}
-use Rattle.vc_text.proofs.Threaded.{threads_unwritten}
+use Rattle.vc_text.proofs.CheckText.{memory_any}
+use Rattle.vc_text.proofs.StepText.{handed_on, writes_one}
+use Rattle.vc_text.proofs.ThreadText.{threads_unwritten}
 use Rattle.vc_threads.specs.declared.report.Ending.{Ending}
 use Rattle.vc_stats.specs.Counts.{most_events}
 use Rattle.vc_stats.specs.Texts.{IsCountedText, IsEventsText}

@@ -3,7 +3,7 @@ use Rattle.std.specs.List.{enumerate_from, flat_map}
 use Rattle.std.specs.Option.{option_copied}
 use Rattle.std.proofs.lemmas.List.{append-nil}
 use Rattle.vc_blocks.specs.Messages.{listed}
-use Rattle.vc_blocks.proofs.Logging.{drop_past}
+use Rattle.vc_blocks.proofs.Logs.{drop_past}
 use Rattle.vc_stats.specs.Json.{message_json}
 use Rattle.vc_text.proofs.Texts.{none_past, rest_at}
 use Rattle.vc_stats.proofs.traffic_json.push_messages.Goals as goal

@@ -1,4 +1,4 @@
-use Rattle.vc_switch.proofs.Stepping.{each_comes}
+use Rattle.vc_switch.proofs.Steps.{each_comes}
 use Rattle.vc_switch.proofs.laws.each_token_comes.Goals as goal
 
 pub returns : goal.returns

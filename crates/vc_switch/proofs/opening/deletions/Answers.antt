@@ -1,7 +1,7 @@
 use Rattle.std.proofs.Common.{◌≡◌, ◌∙◌, sym, ap, arith}
 use Rattle.vc_switch.specs.Private.Opening.{listed}
 use Rattle.vc_switch.specs.Opening.{deletes}
-use Rattle.vc_switch.proofs.Opened.{count_is}
+use Rattle.vc_switch.proofs.OpeningState.{count_is}
 use Rattle.vc_switch.proofs.opening.deletions.Goals as goal
 
 pub returns : goal.returns

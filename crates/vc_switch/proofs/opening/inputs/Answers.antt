@@ -1,6 +1,6 @@
 use Rattle.std.proofs.Common.{◌≡◌, ◌∙◌, sym, ap, arith}
 use Rattle.vc_switch.specs.Private.Opening.{listed, new_link_in}
-use Rattle.vc_switch.proofs.Opened.{count_is}
+use Rattle.vc_switch.proofs.OpeningState.{count_is}
 use Rattle.vc_switch.proofs.opening.inputs.Goals as goal
 
 pub returns : goal.returns

@@ -1,5 +1,5 @@
 use Rattle.vc_text.specs.CheckText.{accepted_text}
-use Rattle.vc_text.proofs.Checked.{tells_accepted}
+use Rattle.vc_text.proofs.CheckText.{tells_accepted}
 use Rattle.vc_text.proofs.check.run_check.Goals as goal
 
 pub returns : goal.returns

@@ -3,7 +3,7 @@ use Rattle.std.proofs.lemmas.Bool.{false≢true}
 use Rattle.vc_core.specs.State.{state_of}
 use Rattle.vc_core.specs.Private.Turns.{GoesOn}
 use Rattle.vc_core.specs.declared.close.Close.TheVariants.{Quiet}
-use Rattle.vc_text.proofs.Closing.{processes_wait}
+use Rattle.vc_text.proofs.Closes.{processes_wait}
 use Rattle.vc_text.proofs.close.close_of.Goals as goal
 
 -- a test that fails shows that what it tests is not so

@@ -6,7 +6,7 @@ use Rattle.vc_text.specs.Deadlock.{IsFound, TellsDeadlock, deadlock_text}
 use Rattle.vc_text.specs.declared.fault.RunFault.{RunFault}
 use Rattle.vc_text.specs.declared.fault.RunFault.TheVariants.{Read, Write, Text, Plan, Threads, Memory}
 use Rattle.vc_text.specs.Streams.{Writes}
-use Rattle.vc_text.proofs.Checked.{memory_any}
+use Rattle.vc_text.proofs.CheckText.{memory_any}
 use Rattle.vc_text.proofs.deadlock.run_deadlock.Goals as goal
 
 -- the line could not be written, or there was no memory for it

@@ -1,4 +1,4 @@
-use Rattle.vc_text.proofs.Quieting.{least_among}
+use Rattle.vc_text.proofs.QuietActors.{least_among}
 use Rattle.vc_text.proofs.masks.least_among.Goals as goal
 
 pub returns : goal.returns

@@ -1,4 +1,4 @@
-use Rattle.vc_text.proofs.Stepped.{reads_together}
+use Rattle.vc_text.proofs.StepText.{reads_together}
 use Rattle.vc_text.proofs.one_node.read_together.Goals as goal
 
 pub returns : goal.returns

@@ -2,9 +2,9 @@ use Rattle.std.proofs.Common.{[], arith, length, sym, subst}
 use Rattle.vc_core.specs.Replay.{Replays}
 use Rattle.vc_core.specs.State.{shown, state_of, IsNetworkOf}
 use Rattle.vc_text.specs.Close.{Closes}
-use Rattle.vc_core.proofs.Replayed.{replays}
-use Rattle.vc_text.proofs.Closing.{processes_wait}
-use Rattle.vc_text.proofs.Drawing.{given_words}
+use Rattle.vc_core.proofs.ReplayRuns.{replays}
+use Rattle.vc_text.proofs.Closes.{processes_wait}
+use Rattle.vc_text.proofs.GeneratorDraws.{given_words}
 use Rattle.vc_text.proofs.run.run_into.Goals as goal
 
 pub returns-clause-is : goal.returns-clause-is

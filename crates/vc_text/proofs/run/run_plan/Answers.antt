@@ -1,7 +1,7 @@
 use Rattle.std.proofs.Common.{subst, sym}
 use Rattle.vc_core.specs.State.{shown, state_of}
 use Rattle.vc_text.specs.RunText.{RunsPlan}
-use Rattle.vc_text.proofs.Stepped.{handed_on, unwritten}
+use Rattle.vc_text.proofs.StepText.{handed_on, unwritten}
 use Rattle.vc_text.proofs.run.run_plan.Goals as goal
 
 pub returns-in_err-write_traffic : goal.returns-in_err-write_traffic

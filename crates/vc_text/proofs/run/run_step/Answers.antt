@@ -1,6 +1,6 @@
 use Rattle.vc_text.specs.CheckText.{ReadsAccepted}
-use Rattle.vc_text.proofs.Checked.{memory_any}
-use Rattle.vc_text.proofs.Stepped.{steps_by}
+use Rattle.vc_text.proofs.CheckText.{memory_any}
+use Rattle.vc_text.proofs.StepText.{steps_by}
 use Rattle.vc_text.proofs.run.run_step.Goals as goal
 
 pub returns : goal.returns

@@ -1,7 +1,7 @@
 use Rattle.std.proofs.Common.{inl}
 use Rattle.vc_text.specs.OneNode.{ReadsTogether}
-use Rattle.vc_text.proofs.Checked.{memory_any}
-use Rattle.vc_text.proofs.Stepped.{steps_by}
+use Rattle.vc_text.proofs.CheckText.{memory_any}
+use Rattle.vc_text.proofs.StepText.{steps_by}
 use Rattle.vc_text.proofs.run.run_together.Goals as goal
 
 pub returns : goal.returns

@@ -1,6 +1,6 @@
 use Rattle.std.proofs.Common.{◌<◌, ◌≤◌, ap, ◌∙◌, map, length, arith}
 use Rattle.vc_core.specs.State.{shown, state_of}
-use Rattle.vc_actor.proofs.Carrying.{few_channels}
+use Rattle.vc_actor.proofs.ChannelWays.{few_channels}
 use Rattle.vc_text.specs.Views.{shown as traffic_of}
 use Rattle.vc_text.proofs.Channels.{viewed_more, viewed_all, some_at}
 use Rattle.vc_text.proofs.run.views.Goals as goal

@@ -3,9 +3,9 @@ use Rattle.std.proofs.lemmas.Bool.{cases_lt}
 use Rattle.vc_core.specs.State.{state_of, IsNetworkOf}
 use Rattle.vc_core.specs.Private.Turns.{Rests, GoesOn}
 use Rattle.vc_actor.specs.Turns.{actors}
-use Rattle.vc_core.proofs.Leaving.{few}
+use Rattle.vc_core.proofs.WayTable.{few}
 use Rattle.vc_text.specs.Close.{HasEvent}
-use Rattle.vc_text.proofs.Closing.{all_rest}
+use Rattle.vc_text.proofs.Closes.{all_rest}
 use Rattle.vc_text.proofs.simulation.goes_on.Goals as goal
 
 pub returns-then-branch-clause-goes_on : goal.returns-then-branch-clause-goes_on

@@ -3,7 +3,7 @@ use Rattle.vc_core.specs.State.{State, state_of}
 use Rattle.vc_core.specs.Turns.{FindsTake}
 use Rattle.vc_plan.specs.declared.plan.Plan.{Plan}
 use Rattle.vc_text.specs.Close.{HasEvent}
-use Rattle.vc_text.proofs.Closing.{some_take, has_of}
+use Rattle.vc_text.proofs.Closes.{some_take, has_of}
 use Rattle.vc_text.proofs.simulation.has_event.Goals as goal
 
 pub returns-then-is_some-clause-has : goal.returns-then-is_some-clause-has

@@ -5,8 +5,8 @@ use Rattle.vc_text.specs.ChannelStates.{channels_of}
 use Rattle.vc_text.specs.Tail.{IsTail}
 use Rattle.vc_text.specs.ThreadsText.{RunsInThreads}
 use Rattle.vc_text.specs.Traffic.{traffic}
-use Rattle.vc_text.proofs.Stepped.{handed_on, writes_one}
-use Rattle.vc_text.proofs.Threaded.{threads_unwritten}
+use Rattle.vc_text.proofs.StepText.{handed_on, writes_one}
+use Rattle.vc_text.proofs.ThreadText.{threads_unwritten}
 use Rattle.vc_text.proofs.threading.run_net.Goals as goal
 
 pub returns-in_err-write_traffic : goal.returns-in_err-write_traffic

@@ -4,8 +4,8 @@ use Rattle.vc_plan.specs.declared.plan.Plan.{Plan}
 use Rattle.vc_text.specs.Private.Streams.{WritesOne}
 use Rattle.vc_text.specs.Tail.{IsTail}
 use Rattle.vc_text.specs.ThreadsText.{WritesThreads}
-use Rattle.vc_text.proofs.Stepped.{handed_on}
-use Rattle.vc_text.proofs.Threaded.{threads_unwritten}
+use Rattle.vc_text.proofs.StepText.{handed_on}
+use Rattle.vc_text.proofs.ThreadText.{threads_unwritten}
 use Rattle.vc_text.proofs.threading.run_net_unlogged.Goals as goal
 
 pub returns-in_err-write_tail : goal.returns-in_err-write_tail

@@ -2,7 +2,7 @@ use Rattle.std.proofs.Common.{◌+◌, ◌++◌, sym, ap, ◌∙◌, arith, appe
 use Rattle.std.proofs.lemmas.List.{append-nil}
 use Rattle.std.specs.Option.{option_copied}
 use Rattle.vc_blocks.specs.Messages.{listed}
-use Rattle.vc_blocks.proofs.Logging.{drop_past}
+use Rattle.vc_blocks.proofs.Logs.{drop_past}
 use Rattle.vc_text.specs.Traffic.{message_line, message_lines}
 use Rattle.vc_text.proofs.Texts.{none_past, rest_at}
 use Rattle.vc_text.proofs.traffic.push_messages.Goals as goal

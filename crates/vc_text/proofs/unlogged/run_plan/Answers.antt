@@ -4,7 +4,7 @@ use Rattle.vc_plan.specs.declared.plan.Plan.{Plan}
 use Rattle.vc_text.specs.RunText.{WritesRun}
 use Rattle.vc_text.specs.Private.Streams.{WritesOne}
 use Rattle.vc_text.specs.Tail.{IsTail}
-use Rattle.vc_text.proofs.Stepped.{handed_on, run_unwritten}
+use Rattle.vc_text.proofs.StepText.{handed_on, run_unwritten}
 use Rattle.vc_text.proofs.unlogged.run_plan.Goals as goal
 
 pub returns-in_err-write_tail : goal.returns-in_err-write_tail

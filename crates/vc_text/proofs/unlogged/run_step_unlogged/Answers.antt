@@ -1,7 +1,7 @@
 use Rattle.vc_text.specs.OneNode.{ReadsAs}
 use Rattle.vc_text.specs.Tail.{IsTail}
-use Rattle.vc_text.proofs.Checked.{memory_as}
-use Rattle.vc_text.proofs.Stepped.{writes_by}
+use Rattle.vc_text.proofs.CheckText.{memory_as}
+use Rattle.vc_text.proofs.StepText.{writes_by}
 use Rattle.vc_text.proofs.unlogged.run_step_unlogged.Goals as goal
 
 pub returns : goal.returns

@@ -1,5 +1,5 @@
 use Rattle.std.specs.Result.{is_ok}
-use Rattle.vc_threads.proofs.Fitting.{ins_more}
+use Rattle.vc_threads.proofs.JobEnds.{ins_more}
 use Rattle.vc_threads.proofs.jobs.add_in.Goals as goal
 
 pub returns-clause-fit : goal.returns-clause-fit

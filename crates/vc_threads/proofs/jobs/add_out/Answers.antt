@@ -1,6 +1,6 @@
 use Rattle.std.specs.Result.{is_ok}
 use Rattle.vc_threads.specs.Works.{Out}
-use Rattle.vc_threads.proofs.Fitting.{outs_more, low_more}
+use Rattle.vc_threads.proofs.JobEnds.{outs_more, low_more}
 use Rattle.vc_threads.proofs.jobs.add_out.Goals as goal
 
 pub returns-clause-fit : goal.returns-clause-fit

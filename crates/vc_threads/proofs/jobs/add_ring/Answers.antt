@@ -7,8 +7,8 @@ use Rattle.vc_threads.specs.Private.Jobs.{IsFit}
 use Rattle.vc_threads.specs.Private.Rings.{outs_of, ins_of, outs_in, ins_in}
 use Rattle.vc_threads.specs.Private.Threads.{who}
 use Rattle.vc_threads.specs.Works.{Out, In}
-use Rattle.vc_threads.proofs.Looking.{item_at}
-use Rattle.vc_threads.proofs.Ringed.{makes_ring}
+use Rattle.vc_threads.proofs.RingViews.{item_at}
+use Rattle.vc_threads.proofs.Rings.{makes_ring}
 use Rattle.vc_threads.proofs.jobs.add_ring.Goals as goal
 
 pub add_out-requires-clause-fit : goal.add_out-requires-clause-fit

@@ -1,12 +1,12 @@
 use Rattle.std.proofs.Common.{length, slice_get, get_or, refl, ap, sym, subst, ◌∙◌, ◌≤◌, arith}
 use Rattle.std.proofs.lemmas.Option.{slice_get-get_or}
-use Rattle.vc_core.proofs.Leaving.{few}
+use Rattle.vc_core.proofs.WayTable.{few}
 use Rattle.vc_plan.specs.declared.port.Port.{Port}
 use Rattle.vc_plan.specs.declared.port.Spot.TheVariants.{Node}
 use Rattle.vc_plan.specs.declared.port.Wire.{Wire}
 use Rattle.vc_threads.specs.Private.Rings.{AddsRing, AreWired, CanAddRing}
-use Rattle.vc_threads.proofs.Freeing.{count_kept, free_first, free_second}
-use Rattle.vc_threads.proofs.Ringed.{wired_more, wired_none}
+use Rattle.vc_threads.proofs.FreeWays.{count_kept, free_first, free_second}
+use Rattle.vc_threads.proofs.Rings.{wired_more, wired_none}
 use Rattle.vc_threads.proofs.jobs.add_rings.Goals as goal
 
 pub loop-wire-init : goal.loop-wire-init

@@ -2,12 +2,12 @@ use Rattle.std.proofs.Common.{◌≡◌, ◌≤◌, [], ◌∷◌, ◌++◌, len
 use Rattle.std.specs.List.{All, AllByRecursion}
 use Rattle.std.proofs.lemmas.List.{map-append, length-map}
 use Rattle.std.proofs.lemmas.List.Elements.{All-push}
-use Rattle.vc_network.proofs.Merging.{both_lists}
+use Rattle.vc_network.proofs.OneMerge.{both_lists}
 use Rattle.vc_threads.specs.Private.Jobs.{IsFit}
 use Rattle.vc_threads.specs.Private.Threads.{AllKeep, AreNumbered, who}
 use Rattle.vc_threads.specs.Private.Works.{IsOfSomePlan}
-use Rattle.vc_threads.proofs.Fitting.{numbered_push, actors_step}
-use Rattle.vc_threads.proofs.Ringed.{none_more}
+use Rattle.vc_threads.proofs.JobEnds.{numbered_push, actors_step}
+use Rattle.vc_threads.proofs.Rings.{none_more}
 use Rattle.vc_threads.specs.Private.Rings.{AreBare, outs_in, ins_in}
 use Rattle.vc_threads.proofs.jobs.jobs_of.Goals as goal
 

@@ -2,12 +2,12 @@ use Rattle.std.proofs.Common.{ap, arith, get_or, length, sym, subst, ◌∙◌}
 use Rattle.std.proofs.lemmas.List.{length-map}
 use Rattle.std.proofs.lemmas.Option.{slice_get-get_or}
 use Rattle.vc_accepted.specs.NetworkOf.{network_of}
-use Rattle.vc_core.proofs.Leaving.{few}
+use Rattle.vc_core.proofs.WayTable.{few}
 use Rattle.vc_threads.specs.Private.Threads.{AllKeep, actor_in}
 use Rattle.vc_threads.specs.Private.Works.{IsOfSomePlan}
 use Rattle.vc_actor.specs.Begin.{AreFirst}
 use Rattle.vc_actor.specs.Turns.{actors}
-use Rattle.vc_threads.proofs.Fitting.{by_recursion, actors_kept}
+use Rattle.vc_threads.proofs.JobEnds.{by_recursion, actors_kept}
 use Rattle.vc_threads.proofs.jobs.make_jobs.Goals as goal
 
 pub jobs_of-requires-clause-few : goal.jobs_of-requires-clause-few

@@ -8,8 +8,8 @@ use Rattle.vc_actor.specs.declared.act.Act.{Act}
 use Rattle.vc_threads.specs.MergedRuns.{of_pair, made_event}
 use Rattle.vc_threads.specs.Private.MergedRuns.{front_of, FindsFirst, HavePassed}
 use Rattle.vc_threads.proofs.Fronts.{StandsAt, left_in, left_of, stand_first, left_first, left_next, stand_next, coming, run_at, not_after, none_left}
-use Rattle.vc_threads.proofs.Passing.{still_passed}
-use Rattle.vc_threads.proofs.Weaving.{without, acts_left, distinct_still, rising_still, fewer_left, first_then, nothing_left}
+use Rattle.vc_threads.proofs.SameStamps.{still_passed}
+use Rattle.vc_threads.proofs.MergeSteps.{without, acts_left, distinct_still, rising_still, fewer_left, first_then, nothing_left}
 use Rattle.vc_threads.proofs.merged_runs.merge.Goals as goal
 
 pub loop-k-init : goal.loop-k-init

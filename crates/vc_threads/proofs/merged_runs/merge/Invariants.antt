@@ -5,7 +5,7 @@ use Rattle.vc_actor.specs.declared.act.Act.{Act}
 use Rattle.vc_threads.specs.MergedRuns.{numbered, made_event}
 use Rattle.vc_threads.specs.Private.MergedRuns.{HavePassed}
 use Rattle.vc_threads.proofs.Fronts.{StandsAt, left_of}
-use Rattle.vc_threads.proofs.Weaving.{acts_left}
+use Rattle.vc_threads.proofs.MergeSteps.{acts_left}
 use Rattle.vc_threads.proofs.merged_runs.merge.Given as goal
 
 abbrev pub invariant-loop-k : goal.invariant-loop-k

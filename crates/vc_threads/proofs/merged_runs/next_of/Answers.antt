@@ -1,4 +1,4 @@
-use Rattle.vc_threads.proofs.Passing.{found_with}
+use Rattle.vc_threads.proofs.SameStamps.{found_with}
 use Rattle.vc_threads.proofs.merged_runs.next_of.Goals as goal
 
 pub returns-in-Some-clause-first : goal.returns-in-Some-clause-first

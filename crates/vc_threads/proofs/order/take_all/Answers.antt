@@ -1,13 +1,13 @@
 use Rattle.std.proofs.Common.{◌++◌, [], ◌∷◌, ◌+◌, ◌≤◌, length, slice_get, get_or, ap, sym, subst, ◌∙◌, arith, length-append}
 use Rattle.std.proofs.lemmas.Option.{slice_get-get_or}
-use Rattle.vc_core.proofs.Leaving.{few}
+use Rattle.vc_core.proofs.WayTable.{few}
 use Rattle.vc_plan.specs.declared.port.Spot.TheVariants.{Node}
 use Rattle.vc_plan.specs.declared.port.Wire.{Wire}
 use Rattle.vc_threads.specs.Private.Order.{IsPort, EndsTaken, MeetAt, LeftAt, LeftOn}
 use Rattle.vc_threads.specs.Order.{OnWays}
 use Rattle.vc_threads.specs.Rings.{IsOnWire}
-use Rattle.vc_threads.proofs.Looking.{ends_same, meet_later, left_before, left_more}
-use Rattle.vc_threads.proofs.Taking.{IsBefore, two_fresh, one_fresh, first_taken, second_taken}
+use Rattle.vc_threads.proofs.RingViews.{ends_same, meet_later, left_before, left_more}
+use Rattle.vc_threads.proofs.Remainders.{IsBefore, two_fresh, one_fresh, first_taken, second_taken}
 use Rattle.vc_threads.proofs.order.take_all.Goals as goal
 
 pub loop-wire-init : goal.loop-wire-init

@@ -2,7 +2,7 @@ use Rattle.std.proofs.Common.{◌≡◌, ◌<◌, length, sym, subst, ◌∙◌}
 use Rattle.vc_threads.specs.Private.Order.{AtLinks, HasEnd, IsLeft, TakenBy}
 use Rattle.vc_threads.specs.Wires.{OutLooked}
 use Rattle.vc_threads.specs.Works.{Out, In}
-use Rattle.vc_threads.proofs.Looking.{found, one_end, taken_none}
+use Rattle.vc_threads.proofs.RingViews.{found, one_end, taken_none}
 use Rattle.vc_threads.proofs.Goings.{any_default}
 use Rattle.vc_threads.proofs.Looks.{looked_same, looked_then}
 use Rattle.vc_threads.proofs.Outcomes.{if_ok_map}

@@ -2,7 +2,7 @@ use Rattle.std.proofs.Common.{◌≡◌, ◌<◌, length, sym, subst}
 use Rattle.vc_accepted.specs.ActorWays.{actor_of}
 use Rattle.vc_threads.specs.Private.Order.{outs_at, AtLinks, IsLeft, IsPort, LeftAt, Meet, TakenBy}
 use Rattle.vc_threads.specs.Wires.{OutLooked}
-use Rattle.vc_threads.proofs.Looking.{actor_there, ends_there, one_changed, taken_none, taken_more}
+use Rattle.vc_threads.proofs.RingViews.{actor_there, ends_there, one_changed, taken_none, taken_more}
 use Rattle.vc_threads.proofs.Looks.{looked_same}
 use Rattle.vc_threads.proofs.Outcomes.{if_ok_map}
 use Rattle.vc_threads.proofs.Zips.{zip_weaker}

@@ -22,11 +22,11 @@ use Rattle.vc_threads.specs.Private.Threads.{AllKeep, AreNumbered, actor_in, who
 use Rattle.vc_threads.specs.declared.spawn.Job.{Job}
 use Rattle.vc_threads.specs.declared.run.ActorRun.{ActorRun}
 use Rattle.vc_threads.proofs.Closings.{not_done}
-use Rattle.vc_threads.proofs.Fitting.{by_recursion}
-use Rattle.vc_threads.proofs.Gathered.{is_run}
-use Rattle.vc_threads.proofs.Ordered.{ends_meet}
-use Rattle.vc_threads.proofs.Reported.{acts_merged, have_merge, in_order, parts_fit, runs_count, steps_of}
-use Rattle.vc_threads.proofs.Rising.{all_apart, all_rise}
+use Rattle.vc_threads.proofs.JobEnds.{by_recursion}
+use Rattle.vc_threads.proofs.WorkerRuns.{is_run}
+use Rattle.vc_threads.proofs.EndOrder.{ends_meet}
+use Rattle.vc_threads.proofs.Reports.{acts_merged, have_merge, in_order, parts_fit, runs_count, steps_of}
+use Rattle.vc_threads.proofs.Stamps.{all_apart, all_rise}
 use Rattle.vc_threads.proofs.threads.run_actors.Goals as goal
 
 pub merge-requires-clause-distinct : goal.merge-requires-clause-distinct

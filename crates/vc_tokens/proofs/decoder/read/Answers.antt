@@ -3,7 +3,7 @@ use Rattle.vc_tokens.specs.declared.refused.Why.{Why}
 use Rattle.vc_tokens.specs.declared.refused.Why.TheVariants as why
 use Rattle.vc_tokens.specs.declared.token.Token.TheVariants as code
 use Rattle.vc_tokens.specs.Tokens.{bytes}
-use Rattle.vc_tokens.proofs.Reading.{token_read, token_breaks}
+use Rattle.vc_tokens.proofs.StreamReads.{token_read, token_breaks}
 use Rattle.vc_tokens.proofs.decoder.read.Goals as goal
 use Rattle.vc_tokens.proofs.decoder.read.Goals.{in-Memory, in-TooLong}
 

@@ -2,7 +2,7 @@ use Rattle.std.proofs.Common.{refl, ap}
 use Rattle.std.proofs.lemmas.Result.{on_ok_weaker}
 use Rattle.vc_packets.specs.declared.mark.Mark.TheVariants.{Eop, Eom}
 use Rattle.vc_tokens.specs.CodeTokens.{token}
-use Rattle.vc_tokens.proofs.Reading.{whole_byte, packet_read}
+use Rattle.vc_tokens.proofs.StreamReads.{whole_byte, packet_read}
 use Rattle.vc_tokens.proofs.decoder.read_token.Goals as goal
 
 pub returns-in-Byte-clause-ok : goal.returns-in-Byte-clause-ok

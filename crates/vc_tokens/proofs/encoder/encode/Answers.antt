@@ -1,4 +1,4 @@
-use Rattle.vc_tokens.proofs.Reading.{byte_encoded}
+use Rattle.vc_tokens.proofs.StreamReads.{byte_encoded}
 use Rattle.vc_tokens.proofs.encoder.encode.Goals as goal
 
 pub loop-byte-preserved : goal.loop-byte-preserved

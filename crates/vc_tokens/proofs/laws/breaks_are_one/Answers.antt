@@ -1,4 +1,4 @@
-use Rattle.vc_tokens.proofs.Breaking.{read_or_broken, read_unbroken, broken_once}
+use Rattle.vc_tokens.proofs.Breaks.{read_or_broken, read_unbroken, broken_once}
 use Rattle.vc_tokens.proofs.laws.breaks_are_one.Goals as goal
 
 pub returns : goal.returns

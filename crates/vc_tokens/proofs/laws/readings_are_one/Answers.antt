@@ -1,4 +1,4 @@
-use Rattle.vc_tokens.proofs.Reading.{read_once}
+use Rattle.vc_tokens.proofs.StreamReads.{read_once}
 use Rattle.vc_tokens.proofs.laws.readings_are_one.Goals as goal
 
 pub returns : goal.returns

@@ -1,6 +1,6 @@
 use Rattle.std.proofs.Common.{List, ℕ, ◌++◌, ◌∙◌, codes}
 use Rattle.std.specs.Borrow.{Bor}
-use Rattle.vc_trace.proofs.Parting.{at_end, before_end, behind_front}
+use Rattle.vc_trace.proofs.LineWords.{at_end, before_end, behind_front}
 use Rattle.vc_trace.proofs.event_line.words_of.Goals as goal
 
 pub returns-in_err-strip_suffix : goal.returns-in_err-strip_suffix

@@ -7,7 +7,7 @@ use Rattle.vc_waits.specs.Waits.{newline}
 use Rattle.vc_plan.specs.Names.{actor_name}
 use Rattle.vc_trace.specs.EventText.{act_words, event_line, spaced}
 use Rattle.vc_trace.specs.Private.Pieces.{Passes}
-use Rattle.vc_trace.proofs.Passing.{any_err, front_first, passes_front, passes_two}
+use Rattle.vc_trace.proofs.TextWrites.{any_err, front_first, passes_front, passes_two}
 use Rattle.vc_trace.proofs.event_text.put_event.Goals as goal
 
 -- the parts of a line, as they are put

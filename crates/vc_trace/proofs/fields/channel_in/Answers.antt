@@ -1,7 +1,7 @@
 use Rattle.std.proofs.Common.{◌∙◌, ap}
 use Rattle.vc_plan.specs.Names.{channel_name}
 use Rattle.vc_trace.specs.Private.Names.{number_at}
-use Rattle.vc_trace.proofs.Spelling.{word_channel}
+use Rattle.vc_trace.proofs.NameWords.{word_channel}
 use Rattle.vc_trace.proofs.fields.channel_in.Goals as goal
 
 pub returns : goal.returns

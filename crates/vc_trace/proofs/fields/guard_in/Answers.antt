@@ -1,5 +1,5 @@
 use Rattle.vc_trace.specs.EventText.{guard_word}
-use Rattle.vc_trace.proofs.Spelling.{word_guard}
+use Rattle.vc_trace.proofs.NameWords.{word_guard}
 use Rattle.vc_trace.proofs.fields.guard_in.Goals as goal
 
 pub returns : goal.returns

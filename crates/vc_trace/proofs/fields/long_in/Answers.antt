@@ -1,5 +1,5 @@
 use Rattle.std.proofs.Common.{arith, decimal}
-use Rattle.vc_trace.proofs.Spelling.{word_decimal}
+use Rattle.vc_trace.proofs.NameWords.{word_decimal}
 use Rattle.vc_trace.proofs.fields.long_in.Goals as goal
 
 pub returns : goal.returns

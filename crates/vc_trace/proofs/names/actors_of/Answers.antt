@@ -1,7 +1,7 @@
 use Rattle.std.proofs.Common.{◌<◌, arith}
 use Rattle.vc_plan.specs.Names.{actor_name}
 use Rattle.vc_trace.specs.EventOf.{IsActor}
-use Rattle.vc_trace.proofs.Naming.{actor_apart, numbered_more}
+use Rattle.vc_trace.proofs.DistinctNames.{actor_apart, numbered_more}
 use Rattle.vc_trace.proofs.names.actors_of.Goals as goal
 
 pub loop-actor-preserved : goal.loop-actor-preserved

@@ -1,7 +1,7 @@
 use Rattle.std.proofs.Common.{◌<◌, arith}
 use Rattle.vc_plan.specs.Names.{channel_name}
 use Rattle.vc_trace.specs.EventOf.{IsChannel}
-use Rattle.vc_trace.proofs.Naming.{channel_apart, numbered_more}
+use Rattle.vc_trace.proofs.DistinctNames.{channel_apart, numbered_more}
 use Rattle.vc_trace.proofs.names.channels_of.Goals as goal
 
 pub loop-chan-preserved : goal.loop-chan-preserved

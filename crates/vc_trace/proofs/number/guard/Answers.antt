@@ -1,6 +1,6 @@
 use Rattle.std.proofs.Common.{Some, ap, sym, ◌∙◌}
 use Rattle.std.proofs.lemmas.Slice.Eq.{bytes_eq-Decides}
-use Rattle.vc_trace.proofs.Spelling.{dash_only}
+use Rattle.vc_trace.proofs.NameWords.{dash_only}
 use Rattle.vc_trace.proofs.number.guard.Goals as goal
 
 pub returns-then-eq : goal.returns-then-eq

@@ -1,5 +1,5 @@
 use Rattle.std.proofs.lemmas.Result.{on_err_weaker}
-use Rattle.vc_trace.proofs.Passing.{front_behind}
+use Rattle.vc_trace.proofs.TextWrites.{front_behind}
 use Rattle.vc_trace.proofs.pieces.put.Goals as goal
 
 pub returns-then-text-gt-ROOM-clause-err : goal.returns-then-text-gt-ROOM-clause-err

@@ -1,6 +1,6 @@
 use Rattle.std.proofs.Common.{ap, ◌∙◌, subst}
 use Rattle.vc_core.specs.State.{shown, state_of}
-use Rattle.vc_core.proofs.Replayed.{replays}
+use Rattle.vc_core.proofs.ReplayRuns.{replays}
 use Rattle.vc_text.specs.Tail.{IsTail}
 use Rattle.vc_trace.specs.Private.Replay.{MakesEvents}
 use Rattle.vc_trace.specs.Replay.{refused_text}

@@ -1,6 +1,6 @@
 use Rattle.std.proofs.Common.{◌≡◌, ◌∙◌, codes, inl, inr, sym, true, false}
 use Rattle.vc_trace.specs.Replay.{EndsEvents}
-use Rattle.vc_trace.proofs.Making.{empty_is, word_is}
+use Rattle.vc_trace.proofs.EventTexts.{empty_is, word_is}
 use Rattle.vc_trace.proofs.replay.ends_events.Goals.{then-is_empty, else-is_empty}
 use Rattle.vc_trace.proofs.replay.ends_events.Goals as goal
 

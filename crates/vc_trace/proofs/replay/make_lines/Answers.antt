@@ -3,7 +3,7 @@ use Rattle.vc_core.specs.State.{state_of}
 use Rattle.vc_trace.specs.Lines.{left}
 use Rattle.vc_trace.specs.Private.Replay.{MakesLine}
 use Rattle.vc_trace.specs.Replay.{EndsEvents}
-use Rattle.vc_trace.proofs.Making.{ends, ends_here, ends_there, made_more, none_made, refuses}
+use Rattle.vc_trace.proofs.EventTexts.{ends, ends_here, ends_there, made_more, none_made, refuses}
 use Rattle.vc_trace.proofs.replay.make_lines.Goals as goal
 
 pub loop-number-init : goal.loop-number-init

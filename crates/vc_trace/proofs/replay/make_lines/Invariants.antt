@@ -1,6 +1,6 @@
 use Rattle.vc_core.specs.State.{state_of}
 use Rattle.vc_trace.specs.Private.EventReader.{IsReaderOf}
-use Rattle.vc_trace.proofs.Making.{HasMade}
+use Rattle.vc_trace.proofs.EventTexts.{HasMade}
 use Rattle.vc_trace.proofs.replay.make_lines.Given as goal
 
 abbrev pub invariant-loop-number : goal.invariant-loop-number

@@ -1,4 +1,4 @@
-use Rattle.vc_trace.proofs.Replaying.{replays_by}
+use Rattle.vc_trace.proofs.Replays.{replays_by}
 use Rattle.vc_trace.proofs.replay.run_replay.Goals as goal
 
 pub returns : goal.returns

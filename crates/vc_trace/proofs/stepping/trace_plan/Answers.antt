@@ -6,10 +6,10 @@ use Rattle.vc_plan.specs.declared.plan.Plan.{Plan}
 use Rattle.vc_text.specs.RunText.{WritesRun}
 use Rattle.vc_text.specs.Streams.{Writes}
 use Rattle.vc_text.specs.Tail.{IsTail}
-use Rattle.vc_text.proofs.Stepped.{handed_on, run_unwritten, writes_one}
+use Rattle.vc_text.proofs.StepText.{handed_on, run_unwritten, writes_one}
 use Rattle.vc_trace.specs.EventText.{events_text}
 use Rattle.vc_trace.specs.TraceText.{IsTracedText}
-use Rattle.vc_trace.proofs.Traced.{traced}
+use Rattle.vc_trace.proofs.RunTexts.{traced}
 use Rattle.vc_trace.proofs.stepping.trace_plan.Goals as goal
 
 pub tail_of-requires : goal.tail_of-requires

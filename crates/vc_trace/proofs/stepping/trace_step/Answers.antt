@@ -1,6 +1,6 @@
 use Rattle.vc_text.specs.OneNode.{ReadsAs}
-use Rattle.vc_text.proofs.Checked.{memory_as}
-use Rattle.vc_text.proofs.Stepped.{writes_by}
+use Rattle.vc_text.proofs.CheckText.{memory_as}
+use Rattle.vc_text.proofs.StepText.{writes_by}
 use Rattle.vc_trace.specs.TraceText.{IsTracedText}
 use Rattle.vc_trace.proofs.stepping.trace_step.Goals as goal
 

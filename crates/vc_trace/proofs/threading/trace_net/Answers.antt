@@ -7,12 +7,12 @@ use Rattle.vc_threads.specs.declared.report.Ending.{Ending}
 use Rattle.vc_text.specs.Streams.{Writes}
 use Rattle.vc_text.specs.Tail.{IsTail}
 use Rattle.vc_text.specs.ThreadsText.{WritesThreads}
-use Rattle.vc_text.proofs.Checked.{memory_any}
-use Rattle.vc_text.proofs.Stepped.{handed_on, writes_one}
-use Rattle.vc_text.proofs.Threaded.{threads_unwritten}
+use Rattle.vc_text.proofs.CheckText.{memory_any}
+use Rattle.vc_text.proofs.StepText.{handed_on, writes_one}
+use Rattle.vc_text.proofs.ThreadText.{threads_unwritten}
 use Rattle.vc_trace.specs.EventText.{events_text}
 use Rattle.vc_trace.specs.TraceText.{IsTracedText}
-use Rattle.vc_trace.proofs.Traced.{traced}
+use Rattle.vc_trace.proofs.RunTexts.{traced}
 use Rattle.vc_trace.proofs.threading.trace_net.Goals as goal
 
 pub tail_of-requires : goal.tail_of-requires

@@ -1,7 +1,7 @@
 use Rattle.std.proofs.Common.{[]}
 use Rattle.std.proofs.lemmas.Result.{on_err_weaker, on_ok_weaker}
 use Rattle.vc_trace.specs.EventText.{events_text}
-use Rattle.vc_trace.proofs.Passing.{any_err, front_first, passes_front, passes_last}
+use Rattle.vc_trace.proofs.TextWrites.{any_err, front_first, passes_front, passes_last}
 use Rattle.vc_trace.proofs.writing.pass_log.Goals as goal
 
 pub returns-in_err-put_log-clause-err : goal.returns-in_err-put_log-clause-err

@@ -1,5 +1,5 @@
 use Rattle.std.proofs.lemmas.Result.{on_err_weaker}
-use Rattle.vc_trace.proofs.Passing.{passes_held}
+use Rattle.vc_trace.proofs.TextWrites.{passes_held}
 use Rattle.vc_trace.proofs.writing.put_last.Goals as goal
 
 pub returns-clause-err : goal.returns-clause-err

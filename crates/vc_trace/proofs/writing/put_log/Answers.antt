@@ -6,7 +6,7 @@ use Rattle.vc_plan.specs.declared.plan.Plan.{Plan}
 use Rattle.vc_text.specs.Streams.{AppendsFront}
 use Rattle.vc_trace.specs.EventText.{event_line, events_text}
 use Rattle.vc_trace.specs.Private.Pieces.{Passes}
-use Rattle.vc_trace.proofs.Passing.{any_err, front_first, passes_front, passes_two}
+use Rattle.vc_trace.proofs.TextWrites.{any_err, front_first, passes_front, passes_two}
 use Rattle.vc_trace.proofs.writing.put_log.Goals as goal
 
 -- the lines of one event more

@@ -4,7 +4,7 @@ use Rattle.vc_blocks.specs.Messages.{listed}
 use Rattle.vc_accepted.specs.NetworkOf.{home_in, network_of}
 use Rattle.vc_core.specs.State.{shown, state_of}
 use Rattle.vc_network.specs.Views.{view}
-use Rattle.vc_uses.proofs.Coming.{behind}
+use Rattle.vc_uses.proofs.NextMessage.{behind}
 use Rattle.vc_uses.proofs.traffic.to_come.Goals as goal
 
 pub returns : goal.returns

@@ -3,10 +3,10 @@ use Rattle.std.proofs.lemmas.Option.{slice_get_read, slice_get_within}
 use Rattle.vc_vcp.specs.Private.Bound.{with_inputs}
 use Rattle.vc_vcp.specs.Private.VcpView.{arrival_told}
 use Rattle.vc_vcp.specs.State.{IsInput, IsPieceOf}
-use Rattle.vc_vcp.proofs.Changing.{stays-input}
-use Rattle.vc_vcp.proofs.Placed.{same_read, set_back, always_on_err}
-use Rattle.vc_vcp.proofs.Taking.{arrives_ok}
-use Rattle.vc_vcp.proofs.Wired.{all-at}
+use Rattle.vc_vcp.proofs.ArrivalChanges.{stays-input}
+use Rattle.vc_vcp.proofs.ListWrites.{same_read, set_back, always_on_err}
+use Rattle.vc_vcp.proofs.Takes.{arrives_ok}
+use Rattle.vc_vcp.proofs.Preservation.{all-at}
 use Rattle.vc_vcp.proofs.input.arrive.Goals as goal
 
 pub returns-clause-stays : goal.returns-clause-stays

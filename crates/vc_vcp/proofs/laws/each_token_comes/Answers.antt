@@ -1,4 +1,4 @@
-use Rattle.vc_vcp.proofs.Arriving.{comes_always}
+use Rattle.vc_vcp.proofs.Arrivals.{comes_always}
 use Rattle.vc_vcp.proofs.laws.each_token_comes.Goals as goal
 
 pub returns : goal.returns

@@ -1,7 +1,7 @@
 use Rattle.std.proofs.Common.{◌≡◌, ◌+◌, arith, length, sym, subst}
-use Rattle.vc_actor.proofs.Carrying.{few_channels}
+use Rattle.vc_actor.proofs.ChannelWays.{few_channels}
 use Rattle.vc_core.specs.State.{shown, state_of}
-use Rattle.vc_waits.proofs.Placed.{ArePlacesTo, finds_place, places_all, places_more}
+use Rattle.vc_waits.proofs.PacketPlaces.{ArePlacesTo, finds_place, places_all, places_more}
 use Rattle.vc_waits.proofs.packets.places.Goals as goal
 
 pub loop-chan-preserved : goal.loop-chan-preserved

@@ -3,7 +3,7 @@ use Rattle.vc_core.specs.Replay.{Reached}
 use Rattle.vc_core.specs.State.{shown, state_of}
 use Rattle.vc_core.specs.declared.event.Event.{Event}
 use Rattle.vc_plan.specs.declared.plan.Plan.{Plan}
-use Rattle.vc_waits.proofs.Placed.{ArePlacesTo}
+use Rattle.vc_waits.proofs.PacketPlaces.{ArePlacesTo}
 use Rattle.vc_waits.proofs.packets.places.Given as goal
 
 abbrev pub invariant-loop-chan : goal.invariant-loop-chan

@@ -1,11 +1,11 @@
 use Rattle.std.proofs.Common.{◌∙◌, ◌∷◌, [], ◌++◌, ◌≡◌, List, ap, sym}
 use Rattle.std.specs.Prelude.{codes, decimal, ℕ}
-use Rattle.vc_process.proofs.Reaching.{adds_more}
+use Rattle.vc_process.proofs.Walks.{adds_more}
 use Rattle.vc_process.specs.declared.process.Process.{Process}
 use Rattle.vc_process.specs.declared.process.Process.TheViews.{out-Branch, out-Guard}
 use Rattle.vc_waits.specs.Paths.{PathsAt, paths}
 use Rattle.vc_waits.specs.Private.Paths.{branch_paths, guard_paths}
-use Rattle.vc_waits.proofs.Folded.{bodies_next, branch_out, guard_out, paths_alone, paths_alt, paths_count, paths_if, paths_par, paths_seq, paths_while}
+use Rattle.vc_waits.proofs.Folds.{bodies_next, branch_out, guard_out, paths_alone, paths_alt, paths_count, paths_if, paths_par, paths_seq, paths_while}
 use Rattle.vc_waits.proofs.paths.+paths.Goals as goal
 
 pub push_paths-returns-in-Seq : goal.push_paths-returns-in-Seq

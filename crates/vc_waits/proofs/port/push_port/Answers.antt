@@ -1,5 +1,5 @@
 use Rattle.std.proofs.Common.{◌≡◌, ◌++◌, append_assoc, ap, codes, decimal, sym, ◌∙◌}
-use Rattle.vc_core.proofs.Lined.{err_all}
+use Rattle.vc_core.proofs.LineBits.{err_all}
 use Rattle.vc_plan.specs.Names.{spot_name}
 use Rattle.vc_waits.specs.Ports.{port_text}
 use Rattle.vc_waits.proofs.port.push_port.Goals as goal

@@ -1,5 +1,5 @@
 use Rattle.vc_waits.specs.Waits.{blocked_text}
-use Rattle.vc_waits.proofs.Blocking.{awaited}
+use Rattle.vc_waits.proofs.BlockWords.{awaited}
 use Rattle.vc_waits.proofs.waits.push_blocked.Goals as goal
 
 pub returns-in_ok-push_site-in-Output : goal.returns-in_ok-push_site-in-Output

@@ -4,7 +4,7 @@ use Rattle.clap.specs.Words.{App, app_of, new_app, with_subcommand}
 use Rattle.clap.specs.Simple.{app_of_fields, on_top, shape_of, shape_of_fields}
 use Rattle.clap.specs.declared.builder.command.Command.TheViews.{out-Command}
 use Rattle.vc_words.specs.CommandLine.{check_shape, explain_shape, deadlock_shape}
-use Rattle.vc_words.proofs.Defined.{globals, neither}
+use Rattle.vc_words.proofs.Commands.{globals, neither}
 use Rattle.vc_words.proofs.definition.definition.Goals as goal
 
 pub returns-clause-app : goal.returns-clause-app

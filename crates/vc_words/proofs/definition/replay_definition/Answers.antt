@@ -3,7 +3,7 @@ use Rattle.std.proofs.lemmas.Result.{IfOk-weaker}
 use Rattle.clap.specs.Words.{App, app_of, new_app, with_rule}
 use Rattle.clap.specs.Simple.{app_of_fields}
 use Rattle.clap.specs.declared.builder.command.Command.TheViews.{out-Command}
-use Rattle.vc_words.proofs.Defined.{globals, neither}
+use Rattle.vc_words.proofs.Commands.{globals, neither}
 use Rattle.vc_words.proofs.definition.replay_definition.Goals as goal
 
 pub returns-clause-shape : goal.returns-clause-shape

@@ -4,7 +4,7 @@ use Rattle.clap.specs.Words.{App, app_of, new_app, with_rule}
 use Rattle.clap.specs.Simple.{app_of_fields}
 use Rattle.clap.specs.declared.builder.command.Command.TheViews.{out-Command}
 use Rattle.vc_words.specs.CommandLine.{option_of}
-use Rattle.vc_words.proofs.Defined.{globals, neither}
+use Rattle.vc_words.proofs.Commands.{globals, neither}
 use Rattle.vc_words.proofs.definition.run_definition.Goals as goal
 
 pub returns-clause-shape : goal.returns-clause-shape

@@ -4,7 +4,7 @@ use Rattle.clap.specs.Simple.{is_simple, subcommand_of, subcommand_rows_of}
 use Rattle.clap.specs.Kinds.{HasKind}
 use Rattle.clap.specs.Faults.{fault_of, is_simple_and_free}
 use Rattle.vc_words.specs.CommandLine.{faults, line_of}
-use Rattle.vc_words.proofs.Asked.{asked, simple, simple_and_free, told, wanted}
+use Rattle.vc_words.proofs.Questions.{asked, simple, simple_and_free, told, wanted}
 use Rattle.vc_words.proofs.reading.command.Goals as goal
 
 pub returns-in-Ok-clause-asks : goal.returns-in-Ok-clause-asks

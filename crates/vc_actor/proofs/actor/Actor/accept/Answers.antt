@@ -3,7 +3,7 @@ use Rattle.vc_actor.specs.Acts.{HasLink, MakesTake}
 use Rattle.vc_actor.specs.OfPlan.{IsActorOf}
 use Rattle.vc_actor.specs.Parts.{acting}
 use Rattle.vc_tokens.specs.CodeTokens.{token}
-use Rattle.vc_actor.proofs.Parting.{alike}
+use Rattle.vc_actor.proofs.Parts.{alike}
 use Rattle.vc_actor.proofs.actor.Actor.accept.Goals.{in-Node, in-Switch}
 use Rattle.vc_actor.proofs.actor.Actor.accept.Goals as goal
 

@@ -2,7 +2,7 @@ use Rattle.std.proofs.Common.{sym, ap, ◌∙◌}
 use Rattle.vc_actor.specs.Acts.{MakesGrant}
 use Rattle.vc_actor.specs.OfPlan.{IsActorOf}
 use Rattle.vc_actor.specs.Parts.{acting}
-use Rattle.vc_actor.proofs.Parting.{alike}
+use Rattle.vc_actor.proofs.Parts.{alike}
 use Rattle.vc_actor.proofs.actor.Actor.grant.Goals.{in-Node, in-Switch}
 use Rattle.vc_actor.proofs.actor.Actor.grant.Goals as goal
 

@@ -4,7 +4,7 @@ use Rattle.vc_actor.specs.ActorView.{Acting}
 use Rattle.vc_actor.specs.OfPlan.{IsActorOf}
 use Rattle.vc_actor.specs.Parts.{acting}
 use Rattle.vc_actor.specs.StepsInARow.{MakesSteps}
-use Rattle.vc_actor.proofs.Parting.{alike}
+use Rattle.vc_actor.proofs.Parts.{alike}
 use Rattle.vc_actor.proofs.StepsInARow.{no_steps}
 use Rattle.vc_actor.proofs.actor.Actor.make_steps.Goals.{in-Node, in-Switch}
 use Rattle.vc_actor.proofs.actor.Actor.make_steps.Goals as goal

@@ -4,7 +4,7 @@ use Rattle.vc_actor.specs.OfPlan.{IsActorOf}
 use Rattle.vc_actor.specs.Parts.{acting}
 use Rattle.vc_actor.specs.ActorView.{OfNode}
 use Rattle.vc_actor.specs.declared.act.Act.TheVariants.{Pass}
-use Rattle.vc_actor.proofs.Parting.{alike, on_ok_of}
+use Rattle.vc_actor.proofs.Parts.{alike, on_ok_of}
 use Rattle.vc_actor.proofs.actor.Actor.pass.Goals.{in-Node, in-Switch}
 use Rattle.vc_actor.proofs.actor.Actor.pass.Goals as goal
 

@@ -4,7 +4,7 @@ use Rattle.vc_actor.specs.OfPlan.{IsActorOf}
 use Rattle.vc_actor.specs.Parts.{acting}
 use Rattle.vc_actor.specs.ActorView.{OfNode, OfSwitch}
 use Rattle.vc_tokens.specs.CodeTokens.{token}
-use Rattle.vc_actor.proofs.Parting.{alike}
+use Rattle.vc_actor.proofs.Parts.{alike}
 use Rattle.vc_actor.proofs.actor.Actor.put.Goals.{in-Node, in-Switch}
 use Rattle.vc_actor.proofs.actor.Actor.put.Goals as goal
 

@@ -1,5 +1,5 @@
 use Rattle.std.proofs.Common.{refl}
-use Rattle.vc_actor.proofs.Linking.{few_links}
+use Rattle.vc_actor.proofs.LinkTokens.{few_links}
 use Rattle.vc_actor.proofs.actor.Actor.take.Goals as goal
 
 pub accept-requires : goal.accept-requires

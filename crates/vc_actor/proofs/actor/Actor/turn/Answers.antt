@@ -3,7 +3,7 @@ use Rattle.std.specs.Prelude.{IfSome}
 use Rattle.vc_actor.specs.OfPlan.{IsActorOf}
 use Rattle.vc_actor.specs.Turns.{FindsTurn, RoomLets}
 use Rattle.vc_actor.specs.Private.Turns.{IsTold}
-use Rattle.vc_actor.proofs.Turning.{turned, if_ok}
+use Rattle.vc_actor.proofs.Turns.{turned, if_ok}
 use Rattle.vc_actor.proofs.actor.Actor.turn.Goals as goal
 
 pub returns-in-None-clause-makes : goal.returns-in-None-clause-makes

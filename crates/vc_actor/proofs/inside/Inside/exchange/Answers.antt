@@ -1,5 +1,5 @@
 use Rattle.std.proofs.Common.{refl, ap, ◌∙◌, slice_set}
-use Rattle.vc_vcp.proofs.Placed.{on_ok}
+use Rattle.vc_vcp.proofs.ListWrites.{on_ok}
 use Rattle.vc_actor.specs.ActorView.{views_of}
 use Rattle.vc_actor.proofs.Insides.{is_at, exchanges_at, keeps_names, still_differ}
 use Rattle.vc_actor.proofs.inside.Inside.exchange.Goals as goal

@@ -4,7 +4,7 @@ use Rattle.std.proofs.lemmas.List.{append-nil}
 use Rattle.std.proofs.lemmas.List.Elements.{All-same}
 use Rattle.vc_accepted.specs.Begin.{is_inside}
 use Rattle.vc_actor.specs.Private.Inside.{opened_inside, opened_internal}
-use Rattle.vc_actor.proofs.Gathering.{gathered_all, opened_more, before_more, before_one}
+use Rattle.vc_actor.proofs.Collection.{gathered_all, opened_more, before_more, before_one}
 use Rattle.vc_actor.proofs.inside.Inside.new.Goals.{then-eq+in_ok-open, else-eq}
 use Rattle.vc_actor.proofs.inside.Inside.new.Goals as goal
 

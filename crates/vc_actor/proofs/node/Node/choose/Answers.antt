@@ -1,7 +1,7 @@
 use Rattle.std.proofs.Common.{refl, subst}
-use Rattle.vc_vcp.proofs.Placed.{on_ok}
+use Rattle.vc_vcp.proofs.ListWrites.{on_ok}
 use Rattle.vc_actor.specs.MayMove.{AnswersMove}
-use Rattle.vc_actor.proofs.Moving.{chooses}
+use Rattle.vc_actor.proofs.NodeMoves.{chooses}
 use Rattle.vc_actor.proofs.node.Node.choose.Goals as goal
 
 pub returns-clause-ok : goal.returns-clause-ok

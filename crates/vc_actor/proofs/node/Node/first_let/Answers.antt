@@ -4,7 +4,7 @@ use Rattle.std.proofs.lemmas.List.Elements.{Contains-get_or}
 use Rattle.vc_occam.specs.declared.moves.Move.TheVariants.{Offer}
 use Rattle.vc_actor.specs.Able.{CanMove}
 use Rattle.vc_actor.proofs.AbleMoves.{half_can, can_half}
-use Rattle.vc_actor.proofs.Turning.{same_there, clash}
+use Rattle.vc_actor.proofs.Turns.{same_there, clash}
 use Rattle.vc_actor.proofs.node.Node.first_let.Goals as goal
 
 pub returns-then-channel_lets-clause-some : goal.returns-then-channel_lets-clause-some

@@ -1,4 +1,4 @@
-use Rattle.vc_actor.proofs.Listing.{none_from}
+use Rattle.vc_actor.proofs.MoveLists.{none_from}
 use Rattle.vc_actor.proofs.node.Node.first_round.Goals as goal
 
 pub returns-in-None-clause-none : goal.returns-in-None-clause-none

@@ -2,13 +2,13 @@ use Rattle.std.proofs.Common.{refl, rules, sym, ap, ◌∙◌, subst, w64, Some}
 use Rattle.std.proofs.lemmas.Int.{to_z-of_z}
 use mir.Val.{SFits}
 use Rattle.std.specs.List.{Contains}
-use Rattle.vc_vcp.proofs.Placed.{on_ok}
+use Rattle.vc_vcp.proofs.ListWrites.{on_ok}
 use Rattle.vc_occam.specs.Runnings.{state, moves, inner_channels}
 use Rattle.vc_occam.specs.States.{sent_by}
 use Rattle.vc_process.specs.Messages.{number_bytes}
 use Rattle.vc_actor.specs.MayMove.{AnswersMove}
-use Rattle.vc_actor.proofs.Moving.{meets}
-use Rattle.vc_actor.proofs.Sending.{meeting_sends}
+use Rattle.vc_actor.proofs.NodeMoves.{meets}
+use Rattle.vc_actor.proofs.Messages.{meeting_sends}
 use Rattle.vc_actor.proofs.node.Node.meet.Goals as goal
 
 pub unreachable-requires : goal.unreachable-requires

@@ -1,8 +1,8 @@
 use Rattle.std.proofs.Common.{sym, subst, refl}
 use Rattle.std.specs.List.{Contains}
 use Rattle.vc_actor.proofs.AbleMoves.{can_listed}
-use Rattle.vc_actor.proofs.Listing.{in_neither}
-use Rattle.vc_actor.proofs.Turning.{found_move}
+use Rattle.vc_actor.proofs.MoveLists.{in_neither}
+use Rattle.vc_actor.proofs.Turns.{found_move}
 use Rattle.vc_actor.proofs.node.Node.next_move.Goals as goal
 
 pub returns-in-None-clause-finds : goal.returns-in-None-clause-finds

@@ -2,7 +2,7 @@ use Rattle.std.proofs.Common.{◌<◌, refl, arith}
 use Rattle.vc_actor.specs.ActorView.{OfNode}
 use Rattle.vc_actor.specs.Turns.{IsTurn}
 use Rattle.vc_actor.specs.declared.act.Act.TheVariants.{Put}
-use Rattle.vc_actor.proofs.Turning.{none_more, clash}
+use Rattle.vc_actor.proofs.Turns.{none_more, clash}
 use Rattle.vc_actor.proofs.node.Node.next_put.Goals.{else-has_room-via-then-has_room+else-may_put, else-has_room-via-else-has_room}
 use Rattle.vc_actor.proofs.node.Node.next_put.Goals as goal
 

@@ -2,8 +2,8 @@ use Rattle.std.proofs.Common.{refl, sym, ap, ◌∙◌, subst}
 use Rattle.std.specs.List.{Contains}
 use Rattle.vc_occam.specs.Runnings.{state, moves, inner_channels}
 use Rattle.vc_occam.specs.States.{sent_by}
-use Rattle.vc_actor.proofs.Moving.{offers}
-use Rattle.vc_actor.proofs.Sending.{offer_sends}
+use Rattle.vc_actor.proofs.NodeMoves.{offers}
+use Rattle.vc_actor.proofs.Messages.{offer_sends}
 use Rattle.vc_actor.proofs.node.Node.offer.Goals as goal
 
 pub unreachable-requires : goal.unreachable-requires

@@ -1,5 +1,5 @@
 use Rattle.std.proofs.Common.{refl, None}
-use Rattle.vc_actor.proofs.Passing.{makes_pass}
+use Rattle.vc_actor.proofs.Passes.{makes_pass}
 use Rattle.vc_actor.proofs.node.Node.pass.Goals as goal
 
 pub returns-in-Some-Byte-clause-ok : goal.returns-in-Some-Byte-clause-ok

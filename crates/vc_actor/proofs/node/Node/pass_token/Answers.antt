@@ -2,7 +2,7 @@ use Rattle.std.proofs.Common.{refl, subst, Some, None}
 use Rattle.vc_vcp.specs.Links.{Passes}
 use Rattle.vc_vcp.specs.VcpView.{seen, ends_of, passed_of}
 use Rattle.vc_vcp.specs.State.{limit_of}
-use Rattle.vc_actor.proofs.Passing.{makes_pass}
+use Rattle.vc_actor.proofs.Passes.{makes_pass}
 use Rattle.vc_actor.proofs.node.Node.pass_token.Goals as goal
 
 pub returns-in-Some-clause-ok : goal.returns-in-Some-clause-ok

@@ -1,7 +1,7 @@
 use Rattle.std.proofs.Common.{refl}
 use Rattle.vc_occam.specs.declared.moves.Move.TheVariants.{Quiet}
-use Rattle.vc_vcp.proofs.Placed.{on_ok}
-use Rattle.vc_actor.proofs.Moving.{rests}
+use Rattle.vc_vcp.proofs.ListWrites.{on_ok}
+use Rattle.vc_actor.proofs.NodeMoves.{rests}
 use Rattle.vc_actor.proofs.node.Node.rest.Goals as goal
 
 pub returns-clause-ok : goal.returns-clause-ok

@@ -1,7 +1,7 @@
 use Rattle.std.proofs.Common.{inl, inr, refl, subst}
 use Rattle.std.proofs.lemmas.Bool.{false≢true}
 use Rattle.vc_actor.specs.MayMove.{AnswersMove}
-use Rattle.vc_actor.proofs.Moving.{stops_link, stops_inside}
+use Rattle.vc_actor.proofs.NodeMoves.{stops_link, stops_inside}
 use Rattle.vc_actor.proofs.node.Node.stopch.Goals as goal
 
 pub stop-requires : goal.stop-requires

@@ -1,5 +1,5 @@
 use Rattle.std.proofs.Common.{refl}
-use Rattle.vc_actor.proofs.Moving.{wants}
+use Rattle.vc_actor.proofs.NodeMoves.{wants}
 use Rattle.vc_actor.proofs.node.Node.want.Goals as goal
 
 pub returns-clause-ok : goal.returns-clause-ok

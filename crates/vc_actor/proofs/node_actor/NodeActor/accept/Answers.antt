@@ -3,8 +3,8 @@ use Rattle.vc_actor.specs.Acts.{MakesTake}
 use Rattle.vc_actor.specs.OfPlan.{IsActorOf}
 use Rattle.vc_actor.specs.ActorView.{OfNode}
 use Rattle.vc_tokens.specs.CodeTokens.{token}
-use Rattle.vc_actor.proofs.Linking.{takes}
-use Rattle.vc_actor.proofs.Parting.{alike}
+use Rattle.vc_actor.proofs.LinkTokens.{takes}
+use Rattle.vc_actor.proofs.Parts.{alike}
 use Rattle.vc_actor.proofs.node_actor.NodeActor.accept.Goals as goal
 
 pub returns : goal.returns

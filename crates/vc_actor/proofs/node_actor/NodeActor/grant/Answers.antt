@@ -2,8 +2,8 @@ use Rattle.std.proofs.Common.{refl, ap}
 use Rattle.vc_actor.specs.Acts.{MakesGrant}
 use Rattle.vc_actor.specs.OfPlan.{IsActorOf}
 use Rattle.vc_actor.specs.ActorView.{OfNode}
-use Rattle.vc_actor.proofs.Linking.{grants}
-use Rattle.vc_actor.proofs.Parting.{alike}
+use Rattle.vc_actor.proofs.LinkTokens.{grants}
+use Rattle.vc_actor.proofs.Parts.{alike}
 use Rattle.vc_actor.proofs.node_actor.NodeActor.grant.Goals as goal
 
 pub returns : goal.returns

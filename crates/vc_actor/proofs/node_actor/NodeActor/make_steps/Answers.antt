@@ -2,7 +2,7 @@ use Rattle.std.proofs.Common.{◌-◌, ap, refl}
 use Rattle.vc_actor.specs.ActorView.{OfNode}
 use Rattle.vc_actor.specs.OfPlan.{IsActorOf}
 use Rattle.vc_actor.specs.StepsInARow.{MakesSteps}
-use Rattle.vc_actor.proofs.Parting.{alike}
+use Rattle.vc_actor.proofs.Parts.{alike}
 use Rattle.vc_actor.proofs.StepsInARow.{no_steps}
 use Rattle.vc_actor.proofs.node_actor.NodeActor.make_steps.Goals as goal
 

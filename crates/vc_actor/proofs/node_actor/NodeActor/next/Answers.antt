@@ -6,7 +6,7 @@ use Rattle.vc_actor.specs.Turns.{IsTurn, FindsOf}
 use Rattle.vc_actor.specs.Private.Turns.{FindsAt, FindsMove}
 use Rattle.vc_actor.specs.declared.act.Act.TheVariants as act
 use Rattle.vc_actor.specs.declared.act.ActKind.TheVariants as kind
-use Rattle.vc_actor.proofs.Turning.{passes, puts, grants, moves, of_node, if_ok}
+use Rattle.vc_actor.proofs.Turns.{passes, puts, grants, moves, of_node, if_ok}
 use Rattle.vc_actor.proofs.node_actor.NodeActor.next.Goals as goal
 
 pub returns-in-Some-clause-finds : goal.returns-in-Some-clause-finds

@@ -5,7 +5,7 @@ use Rattle.vc_actor.specs.ActorView.{OfNode}
 use Rattle.vc_actor.specs.Turns.{IsTurn, FindsOf}
 use Rattle.vc_actor.specs.Private.Turns.{FindsAt}
 use Rattle.vc_actor.specs.declared.act.Act.TheVariants as act
-use Rattle.vc_actor.proofs.Turning.{passes, puts, grants, moves, if_ok}
+use Rattle.vc_actor.proofs.Turns.{passes, puts, grants, moves, if_ok}
 use Rattle.vc_actor.proofs.node_actor.NodeActor.next_of.Goals as goal
 
 pub returns-in-Pass-clause-finds : goal.returns-in-Pass-clause-finds

@@ -3,8 +3,8 @@ use Rattle.vc_actor.specs.Acts.{MakesOwn}
 use Rattle.vc_actor.specs.OfPlan.{IsActorOf}
 use Rattle.vc_actor.specs.ActorView.{OfNode}
 use Rattle.vc_actor.specs.declared.act.Act.TheVariants.{Pass}
-use Rattle.vc_actor.proofs.Linking.{passed}
-use Rattle.vc_actor.proofs.Parting.{alike}
+use Rattle.vc_actor.proofs.LinkTokens.{passed}
+use Rattle.vc_actor.proofs.Parts.{alike}
 use Rattle.vc_actor.proofs.node_actor.NodeActor.pass.Goals as goal
 
 pub returns-then-branch-clause-ok : goal.returns-then-branch-clause-ok

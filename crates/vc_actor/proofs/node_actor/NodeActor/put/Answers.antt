@@ -3,8 +3,8 @@ use Rattle.vc_actor.specs.Acts.{MakesPut}
 use Rattle.vc_actor.specs.OfPlan.{IsActorOf}
 use Rattle.vc_actor.specs.ActorView.{OfNode}
 use Rattle.vc_tokens.specs.CodeTokens.{token}
-use Rattle.vc_actor.proofs.Linking.{puts}
-use Rattle.vc_actor.proofs.Parting.{alike}
+use Rattle.vc_actor.proofs.LinkTokens.{puts}
+use Rattle.vc_actor.proofs.Parts.{alike}
 use Rattle.vc_actor.proofs.node_actor.NodeActor.put.Goals as goal
 
 pub returns : goal.returns

@@ -4,8 +4,8 @@ use Rattle.vc_actor.specs.Acts.{MakesOwn}
 use Rattle.vc_actor.specs.OfPlan.{IsActorOf}
 use Rattle.vc_actor.specs.ActorView.{OfNode}
 use Rattle.vc_actor.specs.declared.act.Act.TheVariants.{Proc}
-use Rattle.vc_actor.proofs.Linking.{moved}
-use Rattle.vc_actor.proofs.Parting.{alike}
+use Rattle.vc_actor.proofs.LinkTokens.{moved}
+use Rattle.vc_actor.proofs.Parts.{alike}
 use Rattle.vc_actor.proofs.node_actor.NodeActor.rest.Goals as goal
 
 pub returns-clause-ok : goal.returns-clause-ok

@@ -5,7 +5,7 @@ use Rattle.vc_switch.specs.State.{IsSwitch, plan_of, limit_of}
 use Rattle.vc_actor.specs.Able.{SwitchCan}
 use Rattle.vc_actor.specs.Acts.{SwitchMay}
 use Rattle.vc_actor.specs.declared.act.Act.TheVariants.{Put, Fct, Pass, Route}
-use Rattle.vc_actor.proofs.Switching.{may_by}
+use Rattle.vc_actor.proofs.SwitchCalls.{may_by}
 use Rattle.vc_actor.proofs.switch_actor.SwitchActor.can.Goals as goal
 
 pub returns-in-Put-clause-may : goal.returns-in-Put-clause-may

@@ -1,7 +1,7 @@
 use Rattle.std.proofs.Common.{sym, subst}
 use Rattle.vc_actor.specs.ActorView.{OfSwitch}
 use Rattle.vc_actor.specs.Turns.{FindsOf}
-use Rattle.vc_actor.proofs.Turning.{passes_here, routes_here, puts, grants}
+use Rattle.vc_actor.proofs.Turns.{passes_here, routes_here, puts, grants}
 use Rattle.vc_actor.proofs.switch_actor.SwitchActor.next_of.Goals as goal
 
 pub returns-in-Pass-clause-finds : goal.returns-in-Pass-clause-finds

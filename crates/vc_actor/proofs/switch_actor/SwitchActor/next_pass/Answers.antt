@@ -4,7 +4,7 @@ use Rattle.vc_actor.specs.Able.{SwitchCan}
 use Rattle.vc_actor.specs.Private.Turns.{FindsAt}
 use Rattle.vc_actor.specs.declared.act.Act.TheVariants.{Pass}
 use Rattle.vc_actor.proofs.Masks.{not_both}
-use Rattle.vc_actor.proofs.Switching.{within}
+use Rattle.vc_actor.proofs.SwitchCalls.{within}
 use Rattle.vc_actor.proofs.switch_actor.SwitchActor.next_pass.Goals as goal
 
 pub returns-in_err-link-clause-finds : goal.returns-in_err-link-clause-finds

@@ -10,8 +10,8 @@ use Rattle.vc_actor.specs.Turns.{IsTurn}
 use Rattle.vc_actor.specs.Private.Turns.{FindsAt}
 use Rattle.vc_actor.specs.declared.act.Act.TheVariants.{Put}
 use Rattle.vc_actor.proofs.Masks.{both_bits, bits_both, not_both, gone_more, left_more}
-use Rattle.vc_actor.proofs.Switching.{may}
-use Rattle.vc_actor.proofs.Turning.{clash}
+use Rattle.vc_actor.proofs.SwitchCalls.{may}
+use Rattle.vc_actor.proofs.Turns.{clash}
 use Rattle.vc_actor.proofs.switch_actor.SwitchActor.next_put.Goals as goal
 
 pub loop-init : goal.loop-init

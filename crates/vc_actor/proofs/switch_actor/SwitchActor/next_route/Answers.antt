@@ -2,7 +2,7 @@ use Rattle.std.proofs.Common.{refl, sym, subst}
 use Rattle.vc_switch.specs.State.{IsSwitch}
 use Rattle.vc_actor.specs.Private.Turns.{FindsRoute}
 use Rattle.vc_actor.specs.declared.act.Act.TheVariants.{Route}
-use Rattle.vc_actor.proofs.Switching.{within}
+use Rattle.vc_actor.proofs.SwitchCalls.{within}
 use Rattle.vc_actor.proofs.switch_actor.SwitchActor.next_route.Goals as goal
 
 pub returns-in_err-input-clause-finds : goal.returns-in_err-input-clause-finds

@@ -1,6 +1,6 @@
 use Rattle.std.proofs.Common.{refl}
 use Rattle.vc_actor.specs.declared.act.Act.TheVariants.{Pass}
-use Rattle.vc_actor.proofs.Switching.{passed}
+use Rattle.vc_actor.proofs.SwitchCalls.{passed}
 use Rattle.vc_actor.proofs.switch_actor.SwitchActor.pass.Goals as goal
 
 pub returns : goal.returns

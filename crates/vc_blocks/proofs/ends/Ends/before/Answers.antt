@@ -1,4 +1,4 @@
-use Rattle.vc_blocks.proofs.Logging.{before_none}
+use Rattle.vc_blocks.proofs.Logs.{before_none}
 use Rattle.vc_blocks.proofs.ends.Ends.before.Goals as goal
 
 pub returns-in-None : goal.returns-in-None

@@ -1,5 +1,5 @@
 use Rattle.std.proofs.Common.{sym, ap, ◌∙◌, slice_get}
-use Rattle.vc_blocks.proofs.Logging.{get-multiple, get-other}
+use Rattle.vc_blocks.proofs.Logs.{get-multiple, get-other}
 use Rattle.vc_blocks.proofs.ends.Ends.get.Goals as goal
 
 pub returns-then-at-self : goal.returns-then-at-self

@@ -1,5 +1,5 @@
 use Rattle.std.proofs.Common.{◌+◌, sym, ap, ◌∙◌, length}
-use Rattle.vc_blocks.proofs.Logging.{length-multiples}
+use Rattle.vc_blocks.proofs.Logs.{length-multiples}
 use Rattle.vc_blocks.proofs.ends.Ends.len.Goals as goal
 
 pub returns : goal.returns

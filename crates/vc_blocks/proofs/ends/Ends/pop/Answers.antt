@@ -1,4 +1,4 @@
-use Rattle.vc_blocks.proofs.Logging.{one-less, popped_none}
+use Rattle.vc_blocks.proofs.Logs.{one-less, popped_none}
 use Rattle.vc_blocks.proofs.ends.Ends.pop.Goals as goal
 
 pub returns-then-self-gt0 : goal.returns-then-self-gt0

@@ -1,5 +1,5 @@
 use Rattle.std.proofs.Common.{◌≡◌, ◌∷◌, [], ap, sym, ◌∙◌, inl, inr, ◌⊎◌, arith, length, length-append}
-use Rattle.vc_blocks.proofs.Logging.{length-multiples, one-more, product_is, room}
+use Rattle.vc_blocks.proofs.Logs.{length-multiples, one-more, product_is, room}
 use Rattle.vc_blocks.proofs.ends.Ends.push.Goals.{then-len-eq0, else-len-eq0}
 use Rattle.vc_blocks.proofs.ends.Ends.push.Goals as goal
 

@@ -1,6 +1,6 @@
 use Rattle.std.proofs.Common.{sym, ap, ◌∙◌, arith, length, slice_get, take, drop, slice_index, ◌-◌, ◌∷◌, Some}
 use Rattle.std.specs.Option.{option_copied}
-use Rattle.vc_blocks.proofs.Logging.{bounds-cut, get-cut, get-none}
+use Rattle.vc_blocks.proofs.Logs.{bounds-cut, get-cut, get-none}
 use Rattle.vc_blocks.proofs.message_log.MessageLog.get.Goals as goal
 
 pub returns-in_err-end : goal.returns-in_err-end

@@ -1,5 +1,5 @@
 use Rattle.std.proofs.Common.{sym, ap, ◌∙◌, length}
-use Rattle.vc_blocks.proofs.Logging.{length-cut}
+use Rattle.vc_blocks.proofs.Logs.{length-cut}
 use Rattle.vc_blocks.proofs.message_log.MessageLog.len.Goals as goal
 
 pub returns : goal.returns

@@ -1,4 +1,4 @@
-use Rattle.vc_blocks.proofs.Logging.{rise-pop, cut-pop}
+use Rattle.vc_blocks.proofs.Logs.{rise-pop, cut-pop}
 use Rattle.vc_blocks.proofs.message_log.MessageLog.pop.Goals as goal
 
 pub invariant_of-self : goal.invariant_of-self

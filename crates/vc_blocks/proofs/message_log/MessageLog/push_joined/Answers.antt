@@ -1,5 +1,5 @@
 use Rattle.std.proofs.Common.{◌≡◌, ◌++◌, ◌∷◌, [], sym, ap, ◌∙◌, true, not, if◌then◌else◌}
-use Rattle.vc_blocks.proofs.Logging.{rise-joined, cut-joined, on_went}
+use Rattle.vc_blocks.proofs.Logs.{rise-joined, cut-joined, on_went}
 use Rattle.std.specs.Result.{is_ok}
 use Rattle.vc_blocks.proofs.message_log.MessageLog.push_joined.Goals as goal
 

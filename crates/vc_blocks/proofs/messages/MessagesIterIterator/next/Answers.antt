@@ -1,6 +1,6 @@
 use Rattle.std.proofs.Common.{arith}
 use Rattle.vc_blocks.specs.Messages.{listed}
-use Rattle.vc_blocks.proofs.Logging.{yields}
+use Rattle.vc_blocks.proofs.Logs.{yields}
 use Rattle.vc_blocks.proofs.messages.MessagesIterIterator.next.Goals as goal
 
 pub returns-clause-steps : goal.returns-clause-steps

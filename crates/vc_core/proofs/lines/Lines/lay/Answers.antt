@@ -4,9 +4,9 @@ use Rattle.vc_tokens.specs.CodeTokens.{tokens as all_spelt}
 use Rattle.vc_tokens.specs.declared.token.Token.{Token}
 use Rattle.vc_tokens.specs.declared.token.Token.TheVariants.{Byte}
 use Rattle.vc_core.specs.Private.Lines.{with_way}
-use Rattle.vc_core.proofs.Enabled.{has}
-use Rattle.vc_core.proofs.Laying.{none_laid, one_laid, stand_now, there_still}
-use Rattle.vc_core.proofs.Replayed.{all_taken}
+use Rattle.vc_core.proofs.Enablement.{has}
+use Rattle.vc_core.proofs.TokensOnWays.{none_laid, one_laid, stand_now, there_still}
+use Rattle.vc_core.proofs.ReplayRuns.{all_taken}
 use Rattle.vc_core.proofs.lines.Lines.lay.Goals as goal
 
 pub loop-token-init : goal.loop-token-init

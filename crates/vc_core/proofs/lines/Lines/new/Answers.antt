@@ -1,8 +1,8 @@
 use Rattle.std.proofs.Common.{◌+◌, ◌*◌, length, sym, ap, ◌∙◌, subst, arith}
 use Rattle.vc_core.specs.Private.Wiring.{AreEnds}
 use Rattle.vc_core.proofs.ByEnd.{are_apart, end_within}
-use Rattle.vc_core.proofs.Leading.{are_ends, ends_count}
-use Rattle.vc_core.proofs.Lined.{at_first}
+use Rattle.vc_core.proofs.WaysOut.{are_ends, ends_count}
+use Rattle.vc_core.proofs.LineBits.{at_first}
 use Rattle.vc_core.proofs.lines.Lines.new.Goals as goal
 
 pub new-requires-2 : goal.new-requires-2

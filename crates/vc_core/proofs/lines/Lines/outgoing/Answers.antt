@@ -1,7 +1,7 @@
 use Rattle.std.proofs.Common.{◌<◌, length, sym, ap, ◌∙◌, subst}
 use Rattle.vc_core.specs.Lines.{Lined}
 use Rattle.vc_core.specs.Wiring.{out_at}
-use Rattle.vc_core.proofs.Lined.{some_all}
+use Rattle.vc_core.proofs.LineBits.{some_all}
 use Rattle.vc_core.proofs.lines.Lines.outgoing.Goals as goal
 
 pub returns-clause-way : goal.returns-clause-way

@@ -3,9 +3,9 @@ use Rattle.vc_tokens.specs.CodeTokens.{token as spelt}
 use Rattle.vc_core.specs.Lines.{Lined}
 use Rattle.vc_core.specs.Private.ByEnd.{ByEnd}
 use Rattle.vc_core.specs.Private.Lines.{LeadsTo, with_way}
-use Rattle.vc_core.proofs.Enabled.{has}
+use Rattle.vc_core.proofs.Enablement.{has}
 use Rattle.vc_core.proofs.ByEnd.{actor_kept, actor_low, leads_there, link_low, same_way, token_came}
-use Rattle.vc_core.proofs.Lined.{end_first}
+use Rattle.vc_core.proofs.LineBits.{end_first}
 use Rattle.vc_core.proofs.lines.Lines.push.Goals as goal
 
 pub push-requires : goal.push-requires

@@ -5,7 +5,7 @@ use Rattle.vc_core.specs.Private.ByEnd.{ByEnd}
 use Rattle.vc_core.specs.Private.Lines.{LeadsTo, with_way}
 use Rattle.vc_core.specs.Wiring.{out_at}
 use Rattle.vc_core.proofs.ByEnd.{actor_kept, actor_low, far_way, leads_there, link_low, token_came}
-use Rattle.vc_core.proofs.Lined.{end_first}
+use Rattle.vc_core.proofs.LineBits.{end_first}
 use Rattle.vc_core.proofs.lines.Lines.push_out.Goals as goal
 
 pub push-requires : goal.push-requires

@@ -2,7 +2,7 @@ use Rattle.std.proofs.Common.{◌≡◌, ◌↔◌, subst}
 use Rattle.std.specs.Int.{bit_at}
 use Rattle.vc_core.specs.Lines.{Lined}
 use Rattle.vc_core.specs.Wiring.{Goes}
-use Rattle.vc_core.proofs.Lined.{goes_of}
+use Rattle.vc_core.proofs.LineBits.{goes_of}
 use Rattle.vc_core.proofs.lines.Lines.room.Goals as goal
 
 pub returns : goal.returns

@@ -6,8 +6,8 @@ use Rattle.vc_core.specs.Private.Lines.{with_way}
 use Rattle.vc_core.specs.Wiring.{in_at, Comes}
 use Rattle.vc_core.specs.declared.ends.End.{End}
 use Rattle.vc_core.proofs.ByEnd.{actor_kept, comes_in, last_went, link_low, one_went}
-use Rattle.vc_core.proofs.Lined.{not_empty}
-use Rattle.vc_actor.proofs.Turning.{clash}
+use Rattle.vc_core.proofs.LineBits.{not_empty}
+use Rattle.vc_actor.proofs.Turns.{clash}
 use Rattle.vc_core.proofs.lines.Lines.take_front.Goals as goal
 
 pub take_front-token-requires : goal.take_front-token-requires

@@ -6,8 +6,8 @@ use Rattle.vc_tokens.specs.CodeTokens.{tokens as all_spelt}
 use Rattle.vc_core.specs.Lines.{Lined}
 use Rattle.vc_core.specs.Private.Lines.{with_way}
 use Rattle.vc_core.specs.Wiring.{AreWaysAt}
-use Rattle.vc_core.proofs.Enabled.{has}
-use Rattle.vc_core.proofs.Laying.{none_yet, one_more, all_laid}
+use Rattle.vc_core.proofs.Enablement.{has}
+use Rattle.vc_core.proofs.TokensOnWays.{none_yet, one_more, all_laid}
 use Rattle.vc_core.proofs.lines.Lines.with_tokens.Goals as goal
 
 pub loop-way-init : goal.loop-way-init

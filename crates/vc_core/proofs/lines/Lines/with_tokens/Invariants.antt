@@ -1,6 +1,6 @@
 use Rattle.std.proofs.Common.{◌≡◌, ◌*◌, length}
 use Rattle.vc_core.specs.Wiring.{AreWaysAt}
-use Rattle.vc_core.proofs.Laying.{IsLaid}
+use Rattle.vc_core.proofs.TokensOnWays.{IsLaid}
 use Rattle.vc_core.proofs.lines.Lines.with_tokens.Given as goal
 
 abbrev pub invariant-loop-way : goal.invariant-loop-way

@@ -5,11 +5,11 @@ use Rattle.vc_network.specs.Plan.{net_of}
 use Rattle.vc_network.proofs.Wiring.{net_accepted}
 use Rattle.vc_accepted.specs.NetworkOf.{network_of, port_at}
 use Rattle.vc_accepted.specs.NetworkOf as to
-use Rattle.vc_accepted.proofs.Accepting.{accepted}
+use Rattle.vc_accepted.proofs.AcceptedNetwork.{accepted}
 use Rattle.vc_core.specs.Private.Targets.{IsTarget, ComesTo}
 use Rattle.vc_core.specs.State.{state_of}
-use Rattle.vc_core.proofs.Following.{sought_there, no_hop, hop_for, some_hop}
-use Rattle.vc_core.proofs.Placing.{far_is, no_wire}
+use Rattle.vc_core.proofs.Routes.{sought_there, no_hop, hop_for, some_hop}
+use Rattle.vc_core.proofs.PortPlaces.{far_is, no_wire}
 use Rattle.vc_core.proofs.network.Network.+leads.Goals as goal
 
 pub returns-in_default : goal.returns-in_default

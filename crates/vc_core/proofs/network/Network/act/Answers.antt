@@ -1,9 +1,9 @@
 use Rattle.std.proofs.Common.{◌≡◌, ◌<◌, length, slice_get, slice_set, Some, refl, sym, subst}
 use Rattle.std.proofs.lemmas.Option.{slice_get_read, slice_get_within}
-use Rattle.vc_vcp.proofs.Placed.{on_ok}
+use Rattle.vc_vcp.proofs.ListWrites.{on_ok}
 use Rattle.vc_core.specs.State.{state_of, MakesEvent}
-use Rattle.vc_core.proofs.Happening.{on_err, own_happens}
-use Rattle.vc_core.proofs.Staying.{is_there, may_there, unchanged}
+use Rattle.vc_core.proofs.Events.{on_err, own_happens}
+use Rattle.vc_core.proofs.ActorLists.{is_there, may_there, unchanged}
 use Rattle.vc_core.proofs.network.Network.act.Goals as goal
 
 pub index_mut-requires : goal.index_mut-requires

@@ -1,5 +1,5 @@
 use Rattle.std.proofs.Common.{arith}
-use Rattle.vc_core.proofs.Leading.{few_actors}
+use Rattle.vc_core.proofs.WaysOut.{few_actors}
 use Rattle.vc_core.proofs.network.Network.actors.Goals as goal
 
 pub returns : goal.returns

@@ -10,8 +10,8 @@ use Rattle.vc_packets.specs.Functions.{shown_or}
 use Rattle.vc_core.specs.Private.PacketPlace.{HasIts}
 use Rattle.vc_core.specs.Private.Targets.{left}
 use Rattle.vc_core.specs.State.{shown, state_of}
-use Rattle.vc_core.proofs.Finding.{through_both, through_more}
-use Rattle.vc_core.proofs.Happening.{none_past}
+use Rattle.vc_core.proofs.Membership.{through_both, through_more}
+use Rattle.vc_core.proofs.Events.{none_past}
 use Rattle.vc_core.proofs.Ways.{along}
 use Rattle.vc_core.proofs.network.Network.carries.Goals as goal
 

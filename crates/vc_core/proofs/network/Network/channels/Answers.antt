@@ -1,5 +1,5 @@
 use Rattle.std.proofs.Common.{arith}
-use Rattle.vc_actor.proofs.Carrying.{few_channels}
+use Rattle.vc_actor.proofs.ChannelWays.{few_channels}
 use Rattle.vc_core.proofs.network.Network.channels.Goals as goal
 
 pub returns : goal.returns

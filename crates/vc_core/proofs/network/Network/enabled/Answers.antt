@@ -1,7 +1,7 @@
 use Rattle.std.proofs.Common.{◌≡◌, refl, sym, ◌∙◌, slice_get, Some, None}
 use Rattle.std.proofs.lemmas.Bool.{false≢true}
 use Rattle.vc_core.specs.State.{state_of}
-use Rattle.vc_core.proofs.Enabled.{happens, has_act, has_ways, has_actor}
+use Rattle.vc_core.proofs.Enablement.{happens, has_act, has_ways, has_actor}
 use Rattle.vc_core.proofs.network.Network.enabled.Goals as goal
 
 pub returns-then-can-clause-may : goal.returns-then-can-clause-may

@@ -3,8 +3,8 @@ use Rattle.std.proofs.lemmas.Bool.{cases_lt, false≢true}
 use Rattle.std.proofs.lemmas.Option.{slice_get_read, slice_get_within}
 use Rattle.vc_core.specs.State.{state_of}
 use Rattle.vc_actor.specs.Private.Parts.{IsDone}
-use Rattle.vc_actor.proofs.Turning.{clash}
-use Rattle.vc_core.proofs.Turning.{ended, same_some}
+use Rattle.vc_actor.proofs.Turns.{clash}
+use Rattle.vc_core.proofs.Turns.{ended, same_some}
 use Rattle.vc_core.proofs.network.Network.ended.Goals as goal
 
 pub returns-then-not-is_done : goal.returns-then-not-is_done

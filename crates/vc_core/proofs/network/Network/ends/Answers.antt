@@ -1,7 +1,7 @@
 use Rattle.std.proofs.Common.{◌≡◌, sym, ◌∙◌, slice_get, Some}
 use Rattle.vc_core.specs.State.{state_of}
-use Rattle.vc_core.proofs.Happening.{none_past}
-use Rattle.vc_core.proofs.Standing.{past_ends}
+use Rattle.vc_core.proofs.Events.{none_past}
+use Rattle.vc_core.proofs.PacketPlaces.{past_ends}
 use Rattle.vc_core.proofs.network.Network.ends.Goals as goal
 
 pub returns-in-Some : goal.returns-in-Some

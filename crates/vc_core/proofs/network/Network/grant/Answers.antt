@@ -5,7 +5,7 @@ use Rattle.vc_core.specs.Lines.{Lined}
 use Rattle.vc_core.specs.State.{State, state_of, HasFront}
 use Rattle.vc_core.specs.Wiring.{Comes}
 use Rattle.vc_core.proofs.Awake.{put_came, put_stands, put_wakes}
-use Rattle.vc_core.proofs.Happening.{granted, way_is, way_found}
+use Rattle.vc_core.proofs.Events.{granted, way_is, way_found}
 use Rattle.vc_core.proofs.network.Network.grant.Goals as goal
 
 pub grant_by-requires : goal.grant_by-requires

@@ -2,7 +2,7 @@ use Rattle.std.proofs.Common.{◌≡◌, ◌<◌, length, slice_get, slice_set, 
 use Rattle.std.proofs.lemmas.Option.{slice_get_read, slice_get_within}
 use Rattle.vc_actor.specs.declared.act.Act.TheVariants as act
 use Rattle.vc_core.specs.State.{state_of}
-use Rattle.vc_core.proofs.Staying.{is_there, may_there}
+use Rattle.vc_core.proofs.ActorLists.{is_there, may_there}
 use Rattle.vc_core.proofs.network.Network.grant_by.Goals as goal
 
 pub index_mut-requires : goal.index_mut-requires

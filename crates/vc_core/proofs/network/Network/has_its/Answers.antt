@@ -4,10 +4,10 @@ use Rattle.std.proofs.lemmas.Option.{slice_get_read, slice_get_within}
 use Rattle.vc_machine.specs.Places.{IsOf, OnWire}
 use Rattle.vc_network.specs.Plan.{net_of}
 use Rattle.vc_accepted.specs.NetworkOf.{network_of}
-use Rattle.vc_vcp.proofs.Placed.{same_read}
+use Rattle.vc_vcp.proofs.ListWrites.{same_read}
 use Rattle.vc_core.specs.Private.Targets.{IsOwned}
-use Rattle.vc_core.proofs.Finding.{has_at, has_none, contains_at}
-use Rattle.vc_actor.proofs.Turning.{clash}
+use Rattle.vc_core.proofs.Membership.{has_at, has_none, contains_at}
+use Rattle.vc_actor.proofs.Turns.{clash}
 use Rattle.vc_core.proofs.network.Network.has_its.Goals as goal
 
 pub returns-then-is_its : goal.returns-then-is_its

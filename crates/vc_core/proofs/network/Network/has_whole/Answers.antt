@@ -2,7 +2,7 @@ use Rattle.std.proofs.Common.{◌<◌, refl, sym, subst}
 use Rattle.vc_switch.specs.SwitchView.{seen}
 use Rattle.vc_switch.specs.Switch.{new_switch}
 use Rattle.vc_core.specs.State.{state_of}
-use Rattle.vc_core.proofs.Placing.{switch_shown, no_switch_shown}
+use Rattle.vc_core.proofs.PortPlaces.{switch_shown, no_switch_shown}
 use Rattle.vc_core.proofs.Ways.{within, none_within}
 use Rattle.vc_core.proofs.network.Network.has_whole.Goals as goal
 

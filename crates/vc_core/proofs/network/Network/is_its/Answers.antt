@@ -1,6 +1,6 @@
 use Rattle.vc_accepted.specs.NetworkOf.{network_of}
-use Rattle.vc_accepted.proofs.Accepting.{accepted}
-use Rattle.vc_core.proofs.Belonging.{its_on}
+use Rattle.vc_accepted.proofs.AcceptedNetwork.{accepted}
+use Rattle.vc_core.proofs.Ownership.{its_on}
 use Rattle.vc_core.proofs.network.Network.is_its.Goals as goal
 
 pub returns-then-body-le-LONGEST : goal.returns-then-body-le-LONGEST

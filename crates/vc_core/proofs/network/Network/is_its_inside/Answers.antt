@@ -1,10 +1,10 @@
 use Rattle.std.proofs.Common.{drop, false, sym, subst}
 use Rattle.vc_network.specs.Plan.{net_of}
 use Rattle.vc_accepted.specs.NetworkOf.{network_of}
-use Rattle.vc_accepted.proofs.Accepting.{accepted}
+use Rattle.vc_accepted.proofs.AcceptedNetwork.{accepted}
 use Rattle.vc_core.specs.Private.Targets.{ComesTo}
-use Rattle.vc_core.proofs.Belonging.{its_inside}
-use Rattle.vc_core.proofs.Following.{leaves_for, some_way}
+use Rattle.vc_core.proofs.Ownership.{its_inside}
+use Rattle.vc_core.proofs.Routes.{leaves_for, some_way}
 use Rattle.vc_core.proofs.network.Network.is_its_inside.Goals as goal
 
 pub returns-in-Some : goal.returns-in-Some

@@ -1,7 +1,7 @@
 use Rattle.std.proofs.Common.{◌≡◌, sym, ap, ◌∙◌, slice_get, Some, arith}
 use Rattle.std.proofs.lemmas.Option.{slice_get_within}
-use Rattle.vc_core.proofs.Happening.{none_past}
-use Rattle.vc_core.proofs.Viewing.{channel_is}
+use Rattle.vc_core.proofs.Events.{none_past}
+use Rattle.vc_core.proofs.Views.{channel_is}
 use Rattle.vc_core.proofs.network.Network.kind.Goals as goal
 
 pub returns-in-Some-clause-is : goal.returns-in-Some-clause-is

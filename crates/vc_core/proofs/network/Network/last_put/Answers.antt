@@ -1,6 +1,6 @@
 use Rattle.std.proofs.Common.{◌≡◌, ℕ, List, [], Option, Some, None, slice_get, sym, ap, ◌∙◌}
 use Rattle.vc_accepted.specs.ActorWays.{outgoing}
-use Rattle.vc_accepted.proofs.Wired.{outgoing_is}
+use Rattle.vc_accepted.proofs.WayPorts.{outgoing_is}
 use Rattle.vc_tokens.specs.Tokens.{Token}
 use Rattle.vc_packets.specs.Functions.{shown_or}
 use Rattle.vc_core.specs.Links.{last_of}

@@ -1,7 +1,7 @@
 use Rattle.std.proofs.Common.{None, sym, subst}
 use Rattle.vc_switch.specs.Forward.{IsDrawn}
 use Rattle.vc_core.specs.State.{state_of}
-use Rattle.vc_core.proofs.Placing.{switch_plan_is, no_switch_there, no_switch_plan}
+use Rattle.vc_core.proofs.PortPlaces.{switch_plan_is, no_switch_there, no_switch_plan}
 use Rattle.vc_core.proofs.network.Network.least_header.Goals as goal
 
 pub returns-in-Some : goal.returns-in-Some

@@ -1,6 +1,6 @@
 use Rattle.vc_core.specs.State.{state_of}
-use Rattle.vc_core.proofs.Lined.{least_front}
-use Rattle.vc_core.proofs.Turning.{takes}
+use Rattle.vc_core.proofs.LineBits.{least_front}
+use Rattle.vc_core.proofs.Turns.{takes}
 use Rattle.vc_core.proofs.network.Network.link_to_take.Goals as goal
 
 pub returns-clause-least : goal.returns-clause-least

@@ -1,6 +1,6 @@
 use Rattle.std.proofs.Common.{subst}
 use Rattle.vc_core.specs.State.{state_of, WaysLet}
-use Rattle.vc_core.proofs.Taking.{acts_at}
+use Rattle.vc_core.proofs.Takes.{acts_at}
 use Rattle.vc_core.proofs.network.Network.make_turn.Goals as goal
 
 pub act-requires-clause-may : goal.act-requires-clause-may

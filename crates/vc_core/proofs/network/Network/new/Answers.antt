@@ -4,7 +4,7 @@ use Rattle.vc_actor.specs.Begin.{AreFirst}
 use Rattle.vc_core.specs.Replay.{IsOpening}
 use Rattle.vc_core.specs.State.{State}
 use Rattle.vc_actor.specs.Turns.{actors}
-use Rattle.vc_core.proofs.Replayed.{opened}
+use Rattle.vc_core.proofs.ReplayRuns.{opened}
 use Rattle.vc_core.proofs.network.Network.new.Goals as goal
 
 pub returns : goal.returns

@@ -3,8 +3,8 @@ use Rattle.std.proofs.lemmas.Option.{slice_get_read, slice_get_past}
 use Rattle.vc_actor.specs.Acts.{MayAct}
 use Rattle.vc_core.specs.State.{state_of}
 use Rattle.vc_actor.specs.Turns.{FindsTurn, RoomLets}
-use Rattle.vc_core.proofs.Staying.{unchanged}
-use Rattle.vc_core.proofs.Turning.{some_event, no_event, no_actor, few_links, ways_by}
+use Rattle.vc_core.proofs.ActorLists.{unchanged}
+use Rattle.vc_core.proofs.Turns.{some_event, no_event, no_actor, few_links, ways_by}
 use Rattle.vc_core.proofs.network.Network.next.Goals as goal
 
 pub returns-then-place-len-clause-finds : goal.returns-then-place-len-clause-finds

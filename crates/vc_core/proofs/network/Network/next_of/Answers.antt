@@ -3,8 +3,8 @@ use Rattle.std.proofs.lemmas.Option.{slice_get_read, slice_get_past}
 use Rattle.vc_actor.specs.Acts.{MayAct}
 use Rattle.vc_core.specs.State.{state_of}
 use Rattle.vc_actor.specs.Turns.{FindsOf, RoomLets, TakesNone, kind_of}
-use Rattle.vc_core.proofs.Staying.{unchanged}
-use Rattle.vc_core.proofs.Turning.{some_event, no_event_of, no_actor, few_links, ways_by}
+use Rattle.vc_core.proofs.ActorLists.{unchanged}
+use Rattle.vc_core.proofs.Turns.{some_event, no_event_of, no_actor, few_links, ways_by}
 use Rattle.vc_actor.specs.declared.act.Act.{Act}
 use Rattle.vc_actor.specs.declared.act.Act.TheVariants.{Proc, Take, Put, Route, Fct, Pass}
 use Rattle.vc_actor.specs.declared.act.ActKind.{ActKind}

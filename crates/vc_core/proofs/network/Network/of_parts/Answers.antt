@@ -6,7 +6,7 @@ use Rattle.vc_tokens.specs.CodeTokens.{tokens as all_spelt}
 use Rattle.vc_core.specs.Channels.{AreChannelsOf}
 use Rattle.vc_core.specs.State.{State}
 use Rattle.vc_core.specs.Wiring.{AreWaysAt}
-use Rattle.vc_core.proofs.Laying.{made_of}
+use Rattle.vc_core.proofs.TokensOnWays.{made_of}
 use Rattle.vc_core.proofs.network.Network.of_parts.Goals as goal
 
 pub with_tokens-requires : goal.with_tokens-requires

@@ -6,7 +6,7 @@ use Rattle.vc_network.specs.Views.{vcps, switches, arrived}
 use Rattle.vc_switch.specs.Switch.{Switch}
 use Rattle.vc_accepted.specs.NetworkOf.{network_of, port_at}
 use Rattle.vc_core.specs.State.{state_of, shown}
-use Rattle.vc_core.proofs.Placing.{switch_shown, switch_plan_is, no_switch_shown, none_passed}
+use Rattle.vc_core.proofs.PortPlaces.{switch_shown, switch_plan_is, no_switch_shown, none_passed}
 use Rattle.vc_core.proofs.network.Network.passed_at.Goals as goal
 
 pub returns-in-Some-switch : goal.returns-in-Some-switch

@@ -1,7 +1,7 @@
 use Rattle.std.proofs.Common.{sym, subst}
 use Rattle.vc_core.specs.PacketPlace.{FindsPlace}
 use Rattle.vc_core.specs.State.{state_of}
-use Rattle.vc_core.proofs.Standing.{are_owned, none_stands, unfinished}
+use Rattle.vc_core.proofs.PacketPlaces.{are_owned, none_stands, unfinished}
 use Rattle.vc_core.proofs.network.Network.place.Goals as goal
 
 pub returns-clause-unfinished : goal.returns-clause-unfinished

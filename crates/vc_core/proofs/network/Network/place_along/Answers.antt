@@ -2,7 +2,7 @@ use Rattle.std.proofs.Common.{◌%◌, ◌==◌, refl, ap}
 use Rattle.std.proofs.lemmas.Bool.{false≢true}
 use Rattle.vc_core.specs.State.{state_of}
 use Rattle.vc_core.specs.declared.place.Place.TheVariants as name
-use Rattle.vc_core.proofs.Placing.{few_wires}
+use Rattle.vc_core.proofs.PortPlaces.{few_wires}
 use Rattle.vc_core.proofs.network.Network.place_along.Goals as goal
 
 pub returns-in_default : goal.returns-in_default

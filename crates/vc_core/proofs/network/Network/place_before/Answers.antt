@@ -1,7 +1,7 @@
 use Rattle.std.proofs.Common.{◌<◌, ap, ◌∙◌, subst}
 use Rattle.vc_accepted.specs.NetworkOf.{port_at}
 use Rattle.vc_core.specs.State.{state_of}
-use Rattle.vc_actor.proofs.Turning.{clash}
+use Rattle.vc_actor.proofs.Turns.{clash}
 use Rattle.vc_core.proofs.Ways.{waiting, before_it, none_before}
 use Rattle.vc_core.proofs.network.Network.place_before.Goals as goal
 

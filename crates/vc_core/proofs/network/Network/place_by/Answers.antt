@@ -4,8 +4,8 @@ use Rattle.vc_accepted.specs.NetworkOf.{network_of}
 use Rattle.vc_network.specs.Plan.{ways}
 use Rattle.vc_core.specs.Private.PacketPlace.{FindsOn}
 use Rattle.vc_core.specs.State.{state_of, shown}
-use Rattle.vc_core.proofs.Standing.{found_held, found_way, found_nowhere, is_channel}
-use Rattle.vc_actor.proofs.Turning.{clash}
+use Rattle.vc_core.proofs.PacketPlaces.{found_held, found_way, found_nowhere, is_channel}
+use Rattle.vc_actor.proofs.Turns.{clash}
 use Rattle.vc_core.proofs.network.Network.place_by.Goals as goal
 
 pub returns-then-holds : goal.returns-then-holds

@@ -4,7 +4,7 @@ use Rattle.vc_accepted.specs.NetworkOf.{network_of}
 use Rattle.vc_accepted.specs.NetworkOf as to
 use Rattle.vc_core.specs.Private.PacketPlace.{FindsAt}
 use Rattle.vc_core.specs.State.{state_of, shown}
-use Rattle.vc_core.proofs.Placing.{near_is, far_is, last_on, no_wire}
+use Rattle.vc_core.proofs.PortPlaces.{near_is, far_is, last_on, no_wire}
 use Rattle.vc_core.proofs.network.Network.place_on.Goals as goal
 
 pub returns-in_err-wire : goal.returns-in_err-wire

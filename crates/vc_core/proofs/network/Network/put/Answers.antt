@@ -6,9 +6,9 @@ use Rattle.vc_core.specs.Private.Lines.{with_way}
 use Rattle.vc_core.specs.Wiring.{Comes}
 use Rattle.vc_core.specs.State.{state_of, HasWay}
 use Rattle.vc_actor.specs.declared.act.Act.TheVariants as act
-use Rattle.vc_core.proofs.Happening.{placed, written_back}
+use Rattle.vc_core.proofs.Events.{placed, written_back}
 use Rattle.vc_core.proofs.Awake.{put_came, put_stands, put_wakes}
-use Rattle.vc_core.proofs.Lined.{err_all}
+use Rattle.vc_core.proofs.LineBits.{err_all}
 use Rattle.vc_core.proofs.network.Network.put.Goals as goal
 
 pub put-requires-clause-may : goal.put-requires-clause-may

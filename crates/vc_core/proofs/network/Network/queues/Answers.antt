@@ -7,7 +7,7 @@ use Rattle.vc_packets.specs.declared.packet.Packet.{Packet}
 use Rattle.vc_accepted.specs.NetworkOf.{network_of}
 use Rattle.vc_vcp.specs.Links.{Vcp}
 use Rattle.vc_core.specs.Private.Targets.{Has}
-use Rattle.vc_core.proofs.Finding.{in_first, in_second}
+use Rattle.vc_core.proofs.Membership.{in_first, in_second}
 use Rattle.vc_core.proofs.network.Network.queues.Goals as goal
 
 pub returns-then-has_its : goal.returns-then-has_its

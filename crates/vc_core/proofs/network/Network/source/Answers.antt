@@ -1,7 +1,7 @@
 use Rattle.std.proofs.Common.{◌≡◌, sym, ap, ◌∙◌, slice_get, Some, arith}
 use Rattle.std.proofs.lemmas.Option.{slice_get_within}
 use Rattle.vc_actor.specs.Private.Parts.{node_at}
-use Rattle.vc_core.proofs.Happening.{none_past}
+use Rattle.vc_core.proofs.Events.{none_past}
 use Rattle.vc_core.proofs.network.Network.source.Goals as goal
 
 pub returns-in-Some-at-clause-shows : goal.returns-in-Some-at-clause-shows

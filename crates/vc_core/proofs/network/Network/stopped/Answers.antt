@@ -1,6 +1,6 @@
 use Rattle.std.proofs.Common.{◌∙◌, None, Some}
 use Rattle.vc_core.specs.State.{state_of}
-use Rattle.vc_core.proofs.Viewing.{sink_found}
+use Rattle.vc_core.proofs.Views.{sink_found}
 use Rattle.vc_core.proofs.network.Network.stopped.Goals as goal
 
 pub returns-in-Some-clause-shows : goal.returns-in-Some-clause-shows

@@ -4,8 +4,8 @@ use Rattle.std.proofs.lemmas.List.{take_all}
 use Rattle.std.proofs.lemmas.Option.{slice_get_read}
 use Rattle.vc_actor.specs.Parts.{strays_of, saturated}
 use Rattle.vc_core.specs.State.{state_of}
-use Rattle.vc_core.proofs.Summing.{sum_next}
-use Rattle.vc_core.proofs.Turning.{none_stray}
+use Rattle.vc_core.proofs.Sums.{sum_next}
+use Rattle.vc_core.proofs.Turns.{none_stray}
 use Rattle.vc_core.proofs.network.Network.strays.Goals as goal
 
 pub loop-actor-preserved : goal.loop-actor-preserved

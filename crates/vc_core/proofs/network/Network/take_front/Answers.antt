@@ -7,10 +7,10 @@ use Rattle.vc_core.specs.State.{state_of}
 use Rattle.vc_core.specs.Wiring.{Comes}
 use Rattle.vc_actor.specs.declared.act.Act.TheVariants as act
 use Rattle.vc_core.proofs.Awake.{still_awake, taken_came, taken_none}
-use Rattle.vc_core.proofs.Enabled.{comes_to}
-use Rattle.vc_core.proofs.Happening.{taken}
-use Rattle.vc_core.proofs.Lined.{in_few}
-use Rattle.vc_core.proofs.Taking.{has_link}
+use Rattle.vc_core.proofs.Enablement.{comes_to}
+use Rattle.vc_core.proofs.Events.{taken}
+use Rattle.vc_core.proofs.LineBits.{in_few}
+use Rattle.vc_core.proofs.Takes.{has_link}
 use Rattle.vc_core.proofs.network.Network.take_front.Goals as goal
 
 pub accept-requires : goal.accept-requires

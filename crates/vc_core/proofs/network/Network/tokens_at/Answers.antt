@@ -7,7 +7,7 @@ use Rattle.vc_tokens.specs.Tokens.{Token}
 use Rattle.vc_vcp.specs.Links.{Vcp}
 use Rattle.vc_accepted.specs.NetworkOf.{network_of, port_at}
 use Rattle.vc_core.specs.State.{State, state_of, shown}
-use Rattle.vc_core.proofs.Placing.{switch_shown, no_switch_shown}
+use Rattle.vc_core.proofs.PortPlaces.{switch_shown, no_switch_shown}
 use Rattle.vc_core.proofs.network.Network.tokens_at.Goals as goal
 
 abbrev buffer_at : Plan → State → Port → List Token

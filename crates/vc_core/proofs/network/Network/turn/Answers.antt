@@ -1,7 +1,7 @@
 use Rattle.std.proofs.Common.{IfSome, refl, sym, subst}
 use Rattle.vc_core.specs.State.{state_of, IsNetworkOf, MayActAt, MakesEvent, WaysLet}
 use Rattle.vc_core.proofs.Awake.{still_awake, then_awake}
-use Rattle.vc_core.proofs.Taking.{happens_at}
+use Rattle.vc_core.proofs.Takes.{happens_at}
 use Rattle.vc_core.proofs.network.Network.turn.Goals as goal
 
 pub make_turn-requires-clause-may : goal.make_turn-requires-clause-may

@@ -2,7 +2,7 @@ use Rattle.std.proofs.Common.{IfSome, refl, sym, subst}
 use Rattle.vc_core.specs.State.{state_of, IsNetworkOf, MayActAt, MakesEvent, WaysLet}
 use Rattle.vc_core.specs.Turns.{FindsEventOf}
 use Rattle.vc_core.proofs.Awake.{still_awake, then_awake}
-use Rattle.vc_core.proofs.Taking.{happens_at}
+use Rattle.vc_core.proofs.Takes.{happens_at}
 use Rattle.vc_core.proofs.network.Network.turn_by.Goals as goal
 
 pub make-requires : goal.make-requires

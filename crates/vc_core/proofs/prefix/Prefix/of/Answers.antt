@@ -1,7 +1,7 @@
 use Rattle.std.proofs.Common.{◌++◌, length, ap, ◌∙◌, arith}
 use Rattle.std.proofs.Math.Nat.{min-le_left}
 use Rattle.std.proofs.lemmas.List.{length-take}
-use Rattle.vc_core.proofs.Finding.{of_ok}
+use Rattle.vc_core.proofs.Membership.{of_ok}
 use Rattle.vc_core.proofs.prefix.Prefix.of.Goals as goal
 
 pub returns : goal.returns

@@ -1,6 +1,6 @@
 use Rattle.std.proofs.Common.{ap, ◌∙◌, arith}
 use Rattle.std.proofs.lemmas.Bool.Decides.{nat_tests}
-use Rattle.vc_core.proofs.Finding.{kept_more, kept_same}
+use Rattle.vc_core.proofs.Membership.{kept_more, kept_same}
 use Rattle.vc_core.proofs.prefix.Prefix.with.Goals.{then-not-is_full, else-not-is_full}
 use Rattle.vc_core.proofs.prefix.Prefix.with.Goals as goal
 

@@ -4,7 +4,7 @@ use Rattle.vc_network.specs.Plan.{net_of, ways}
 use Rattle.vc_packets.specs.declared.packet.Packet.{Packet}
 use Rattle.vc_accepted.specs.NetworkOf.{network_of}
 use Rattle.vc_core.specs.Private.Targets.{Has, IsOwned}
-use Rattle.vc_core.proofs.Finding.{read_already, last_read}
+use Rattle.vc_core.proofs.Membership.{read_already, last_read}
 use Rattle.vc_core.proofs.reader.Reader.ended.Goals.{then-self, else-self}
 use Rattle.vc_core.proofs.reader.Reader.ended.Goals as goal
 

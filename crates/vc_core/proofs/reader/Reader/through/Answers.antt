@@ -6,8 +6,8 @@ use Rattle.vc_tokens.specs.CodeTokens.{token, tokens}
 use Rattle.vc_tokens.specs.declared.token.Token.{Token}
 use Rattle.vc_tokens.specs.declared.token.Token.TheVariants.{Byte}
 use Rattle.vc_core.specs.Private.Targets.{HasRead, left}
-use Rattle.vc_core.proofs.Finding.{through_more}
-use Rattle.vc_core.proofs.Replayed.{take_more, all_taken}
+use Rattle.vc_core.proofs.Membership.{through_more}
+use Rattle.vc_core.proofs.ReplayRuns.{take_more, all_taken}
 use Rattle.vc_core.proofs.reader.Reader.through.Goals as goal
 
 pub loop-token-preserved : goal.loop-token-preserved

@@ -1,8 +1,8 @@
 use Rattle.std.proofs.Common.{◌<◌, length, map, sym, ap, ◌∙◌, subst}
 use Rattle.vc_core.specs.Private.Wiring.{AreEnds, AreFar, AreRooms, far_end_of}
-use Rattle.vc_core.proofs.Enabled.{has}
+use Rattle.vc_core.proofs.Enablement.{has}
 use Rattle.vc_core.proofs.ByEnd.{are_far}
-use Rattle.vc_core.proofs.Leading.{are_ends, ends_count, one_link}
+use Rattle.vc_core.proofs.WaysOut.{are_ends, ends_count, one_link}
 use Rattle.vc_core.proofs.wiring.Wiring.new.Goals as goal
 
 pub invariant_of-result : goal.invariant_of-result

@@ -1,6 +1,6 @@
 use Rattle.std.proofs.Common.{◌∙◌, Bool, List, length, get_or, refl, ap, arith}
 use Rattle.vc_cycles.proofs.Among.{at_index}
-use Rattle.vc_cycles.proofs.Rounding.{looking_on, seen_long}
+use Rattle.vc_cycles.proofs.CycleSearch.{looking_on, seen_long}
 use Rattle.vc_cycles.proofs.round.Round.look.Goals as goal
 
 pub find-requires : goal.find-requires

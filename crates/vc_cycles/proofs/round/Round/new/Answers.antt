@@ -1,5 +1,5 @@
 use Rattle.std.proofs.Common.{◌∙◌, ◌++◌, [], ◌∷◌, ap, rules}
-use Rattle.vc_cycles.proofs.Rounding.{searched_start}
+use Rattle.vc_cycles.proofs.CycleSearch.{searched_start}
 use Rattle.vc_cycles.proofs.round.Round.new.Goals as goal
 
 pub returns : goal.returns

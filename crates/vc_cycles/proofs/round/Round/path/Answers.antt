@@ -1,6 +1,6 @@
 use Rattle.std.proofs.Common.{◌∙◌, ◌<◌, ◌∷◌, ap, arith}
 use Rattle.vc_cycles.proofs.Among.{read_at}
-use Rattle.vc_cycles.proofs.Rounding.{from_less}
+use Rattle.vc_cycles.proofs.CycleSearch.{from_less}
 use Rattle.vc_cycles.proofs.Ways.{way_more, way_round, way_whole}
 use Rattle.vc_cycles.proofs.round.Round.path.Goals as goal
 

@@ -11,9 +11,9 @@ use Rattle.vc_occam.specs.declared.frame.Guard.{Guard}
 use Rattle.vc_occam.specs.Frames.{View, guarded, guarding, view}
 use Rattle.vc_occam.specs.Private.Frames.{HasGot, HasGuard, seen_guard, seen_guards}
 use Rattle.vc_occam.proofs.Bodies.{guard_body}
-use Rattle.vc_occam.proofs.Choosing.{bodies_sound, guard_got, the_guard}
-use Rattle.vc_occam.proofs.Going.{part_is_sound}
-use Rattle.vc_occam.proofs.Taking.{map_get}
+use Rattle.vc_occam.proofs.GuardChoice.{bodies_sound, guard_got, the_guard}
+use Rattle.vc_occam.proofs.PartSteps.{part_is_sound}
+use Rattle.vc_occam.proofs.PartChoice.{map_get}
 use Rattle.vc_occam.proofs.act.Alt+Frame.take.Goals as goal
 
 -- the place is one of a guard

@@ -4,8 +4,8 @@ use Rattle.vc_occam.specs.declared.outcome.Outcome.{Outcome}
 use Rattle.vc_occam.specs.Private.Frames.{Went, alt_shape, input_shape, seen_guards, unstopped}
 use Rattle.vc_occam.specs.Private.SiteSteps.{message_at}
 use Rattle.vc_process.specs.Terms.{store}
-use Rattle.vc_occam.proofs.Acted.{can_as, went_as}
-use Rattle.vc_occam.proofs.Choosing.{message_got, message_has}
+use Rattle.vc_occam.proofs.SiteActs.{can_as, went_as}
+use Rattle.vc_occam.proofs.GuardChoice.{message_got, message_has}
 use Rattle.vc_occam.proofs.OwnSite.{no_message}
 use Rattle.vc_occam.proofs.ProcessStep.{input_got, received_there}
 use Rattle.vc_occam.proofs.act.Construct+Frame.receive.Goals as goal

@@ -6,7 +6,7 @@ use Rattle.vc_occam.specs.Frames.{view}
 use Rattle.vc_occam.specs.Private.Frames.{Acted, shape}
 use Rattle.vc_occam.specs.Private.SiteSteps.{quiet_at}
 use Rattle.vc_process.specs.Terms.{exp, given, store}
-use Rattle.vc_occam.proofs.Acted.{can_as, index_there, leaf_acted}
+use Rattle.vc_occam.proofs.SiteActs.{can_as, index_there, leaf_acted}
 use Rattle.vc_occam.proofs.ProcessStep.{assigned_there, output_faulted}
 use Rattle.vc_occam.proofs.act.Construct+Frame.step.Goals as goal
 

@@ -13,7 +13,7 @@ use Rattle.vc_occam.specs.declared.outcome.Outcome.{Outcome}
 use Rattle.vc_occam.specs.Frames.{begun, counting, outcome_of, view}
 use Rattle.vc_occam.specs.Remains.{begin}
 use Rattle.vc_occam.specs.Private.Frames.{Acted, count_turn}
-use Rattle.vc_occam.proofs.Taking.{count_faulted, count_left, count_taken, not_counting}
+use Rattle.vc_occam.proofs.PartChoice.{count_faulted, count_left, count_taken, not_counting}
 use Rattle.vc_occam.proofs.act.Count+Frame.act.Goals as goal
 
 pub returns-clause-acted : goal.returns-clause-acted

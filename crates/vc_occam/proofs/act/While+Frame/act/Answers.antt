@@ -5,7 +5,7 @@ use Rattle.vc_occam.specs.declared.frame.Frame.{Frame}
 use Rattle.vc_occam.specs.Frames.{begun, looping, outcome_of, view}
 use Rattle.vc_occam.specs.Remains.{begin}
 use Rattle.vc_occam.specs.Private.Frames.{Acted}
-use Rattle.vc_occam.proofs.Taking.{not_turning, turn_taken, while_faulted, while_left}
+use Rattle.vc_occam.proofs.PartChoice.{not_turning, turn_taken, while_faulted, while_left}
 use Rattle.vc_occam.proofs.act.While+Frame.act.Goals as goal
 
 pub returns : goal.returns

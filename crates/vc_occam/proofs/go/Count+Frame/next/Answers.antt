@@ -10,7 +10,7 @@ use Rattle.vc_occam.specs.declared.frame.Turn.{Turn}
 use Rattle.vc_occam.specs.Frames.{begun, counting, outcome_of, view}
 use Rattle.vc_occam.specs.Private.Frames.{HasTurned}
 use Rattle.vc_occam.specs.Remains.{begin}
-use Rattle.vc_occam.proofs.Taking.{count_next}
+use Rattle.vc_occam.proofs.PartChoice.{count_next}
 use Rattle.vc_occam.proofs.go.Count+Frame.next.Goals as goal
 
 -- the index that the code works out

@@ -2,7 +2,7 @@ use Rattle.std.proofs.Common.{◌≡◌, ◌∙◌, ◌+◌, ◌-◌, ◌<◌, s
 use Rattle.vc_occam.specs.Frames.{besides, outcome_of, task_view}
 use Rattle.vc_occam.specs.Private.Frames.{seen_task, task_views}
 use Rattle.vc_occam.proofs.Abreast.{besides_end, besides_go, besides_more, task_count, task_ended, task_goes}
-use Rattle.vc_occam.proofs.Going.{part_is_sound}
+use Rattle.vc_occam.proofs.PartSteps.{part_is_sound}
 use Rattle.vc_occam.proofs.Pars.{task_at}
 use Rattle.vc_occam.proofs.go.Par+Frame.outcome.Goals as goal
 

@@ -10,8 +10,8 @@ use Rattle.vc_occam.specs.States.{Acts, FitsMove, doing, sent_by}
 use Rattle.vc_process.specs.Terms.{store}
 use Rattle.vc_process.specs.Usage.{among}
 use Rattle.vc_occam.proofs.Meets.{acts_met, can_begin, meeting_listed, other_listed, met_sites, met_use}
-use Rattle.vc_occam.proofs.Unjoined.{apart}
-use Rattle.vc_occam.proofs.Waited.{stays}
+use Rattle.vc_occam.proofs.NoInnerChannels.{apart}
+use Rattle.vc_occam.proofs.OtherMoves.{stays}
 use Rattle.vc_occam.proofs.running.Running.act.Goals as goal
 
 pub meet-requires-clause-meets : goal.meet-requires-clause-meets

@@ -6,8 +6,8 @@ use Rattle.vc_occam.specs.Runnings.{state, inner_channels}
 use Rattle.vc_occam.specs.States.{State}
 use Rattle.vc_process.specs.Syntax.{Proc}
 use Rattle.vc_process.specs.Terms.{store}
-use Rattle.vc_occam.proofs.Acting.{acts, own_alone}
-use Rattle.vc_occam.proofs.Keeping.{step_uses}
+use Rattle.vc_occam.proofs.MoveActs.{acts, own_alone}
+use Rattle.vc_occam.proofs.Preservation.{step_uses}
 use Rattle.vc_occam.proofs.Made.{able}
 use Rattle.vc_occam.proofs.Sites.{step_keeps}
 use Rattle.vc_occam.proofs.running.Running.act_alone.Goals as goal

@@ -10,7 +10,7 @@ use Rattle.vc_occam.specs.Runnings.{state, inner_channels}
 use Rattle.vc_process.specs.Terms.{store}
 use Rattle.vc_process.specs.Usage.{among}
 use Rattle.vc_occam.proofs.Sought.{from_listed, none_inside}
-use Rattle.vc_occam.proofs.Unjoined.{unjoined}
+use Rattle.vc_occam.proofs.NoInnerChannels.{unjoined}
 use Rattle.vc_occam.proofs.running.Running.first_from.Goals as goal
 
 pub returns-then-not-is_empty-clause-first : goal.returns-then-not-is_empty-clause-first

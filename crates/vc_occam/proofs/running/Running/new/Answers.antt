@@ -10,8 +10,8 @@ use Rattle.vc_occam.specs.Sites.{OwnSites}
 use Rattle.vc_process.specs.Numbering.{written}
 use Rattle.vc_process.specs.Terms.{store}
 use Rattle.vc_process.proofs.Numbers.{written_is}
-use Rattle.vc_occam.proofs.Fitting.{fits_variables, kinds_length}
-use Rattle.vc_occam.proofs.Keeping.{begins}
+use Rattle.vc_occam.proofs.Scope.{fits_variables, kinds_length}
+use Rattle.vc_occam.proofs.Preservation.{begins}
 use Rattle.vc_occam.proofs.Preorder.{at_first, in_preorder}
 use Rattle.vc_occam.proofs.Tasks.{has_begun}
 use Rattle.vc_occam.proofs.running.Running.new.Goals as goal

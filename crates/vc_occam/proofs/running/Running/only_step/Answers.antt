@@ -1,4 +1,4 @@
-use Rattle.vc_occam.proofs.Unjoined.{only_moves}
+use Rattle.vc_occam.proofs.NoInnerChannels.{only_moves}
 use Rattle.vc_occam.proofs.running.Running.only_step.Goals as goal
 
 pub returns-in-Quiet : goal.returns-in-Quiet

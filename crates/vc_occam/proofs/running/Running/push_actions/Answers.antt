@@ -6,7 +6,7 @@ use Rattle.vc_occam.specs.Frames.{remains}
 use Rattle.vc_occam.specs.Runnings.{state, inner_channels, moves}
 use Rattle.vc_process.specs.Terms.{store}
 use Rattle.vc_process.specs.Usage.{among}
-use Rattle.vc_occam.proofs.Unjoined.{all_listed, unjoined}
+use Rattle.vc_occam.proofs.NoInnerChannels.{all_listed, unjoined}
 use Rattle.vc_occam.proofs.running.Running.push_actions.Goals as goal
 
 pub returns-then-is_empty : goal.returns-then-is_empty

@@ -2,8 +2,8 @@ use Rattle.vc_occam.specs.Frames.{remains}
 use Rattle.vc_occam.specs.Runnings.{state}
 use Rattle.vc_occam.specs.States.{State}
 use Rattle.vc_process.specs.Terms.{store}
-use Rattle.vc_occam.proofs.Acting.{resumes}
-use Rattle.vc_occam.proofs.Keeping.{step_uses}
+use Rattle.vc_occam.proofs.MoveActs.{resumes}
+use Rattle.vc_occam.proofs.Preservation.{step_uses}
 use Rattle.vc_occam.proofs.Made.{able_on}
 use Rattle.vc_occam.proofs.Sites.{step_keeps}
 use Rattle.vc_occam.proofs.Tasks.{goes_on_loud, same_preorder, same_variables, task_did}

@@ -5,8 +5,8 @@ use Rattle.vc_occam.specs.Runnings.{state, inner_channels}
 use Rattle.vc_occam.specs.States.{State}
 use Rattle.vc_process.specs.Terms.{store}
 use Rattle.vc_process.specs.Usage.{among}
-use Rattle.vc_occam.proofs.Acting.{acts}
-use Rattle.vc_occam.proofs.Keeping.{step_uses}
+use Rattle.vc_occam.proofs.MoveActs.{acts}
+use Rattle.vc_occam.proofs.Preservation.{step_uses}
 use Rattle.vc_occam.proofs.Made.{able}
 use Rattle.vc_occam.proofs.Meets.{other_listed}
 use Rattle.vc_occam.proofs.Sites.{step_keeps}

@@ -1,6 +1,6 @@
 use Rattle.vc_occam.specs.Frames.{remains}
 use Rattle.vc_occam.specs.States.{waiting}
-use Rattle.vc_occam.proofs.Acting.{found_waits}
+use Rattle.vc_occam.proofs.MoveActs.{found_waits}
 use Rattle.vc_occam.proofs.running.Running.waits_on.Goals as goal
 
 pub returns : goal.returns

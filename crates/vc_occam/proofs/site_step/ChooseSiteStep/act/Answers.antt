@@ -11,8 +11,8 @@ use Rattle.vc_occam.specs.Private.SiteSteps.{one, step_at}
 use Rattle.vc_occam.specs.SiteActions as action
 use Rattle.vc_packets.specs.declared.bytes.Bytes.{Bytes}
 use Rattle.vc_process.specs.Terms.{store}
-use Rattle.vc_occam.proofs.Acted.{frame_can, rolled_went}
-use Rattle.vc_occam.proofs.Choosing.{choice_got, choice_has, choice_waits}
+use Rattle.vc_occam.proofs.SiteActs.{frame_can, rolled_went}
+use Rattle.vc_occam.proofs.GuardChoice.{choice_got, choice_has, choice_waits}
 use Rattle.vc_occam.proofs.OwnSite.{no_choice}
 use Rattle.vc_occam.proofs.site_step.ChooseSiteStep.act.Goals as goal
 

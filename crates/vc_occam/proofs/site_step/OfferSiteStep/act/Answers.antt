@@ -5,7 +5,7 @@ use Rattle.vc_occam.specs.declared.outcome.Outcome.TheVariants.{Nothing}
 use Rattle.vc_occam.specs.Private.SiteSteps.{one, step_at}
 use Rattle.vc_occam.specs.SiteActions as action
 use Rattle.vc_process.specs.Terms.{given, store}
-use Rattle.vc_occam.proofs.Acted.{frame_can, rolled_went}
+use Rattle.vc_occam.proofs.SiteActs.{frame_can, rolled_went}
 use Rattle.vc_occam.proofs.OwnSite.{no_offer}
 use Rattle.vc_occam.proofs.ProcessStep.{output_offered}
 use Rattle.vc_occam.proofs.site_step.OfferSiteStep.act.Goals as goal

@@ -8,7 +8,7 @@ use Rattle.vc_occam.specs.Private.Frames.{Went}
 use Rattle.vc_occam.specs.Private.SiteSteps.{one, quiet_at}
 use Rattle.vc_occam.specs.SiteActions as action
 use Rattle.vc_process.specs.Terms.{store}
-use Rattle.vc_occam.proofs.Acted.{can_here, stopped_went, went_here}
+use Rattle.vc_occam.proofs.SiteActs.{can_here, stopped_went, went_here}
 use Rattle.vc_occam.proofs.site_step.QuietSiteStep.act.Goals as goal
 
 pub step-requires-clause-can : goal.step-requires-clause-can

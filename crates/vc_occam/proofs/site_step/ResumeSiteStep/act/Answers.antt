@@ -8,7 +8,7 @@ use Rattle.vc_occam.specs.Private.SiteSteps.{one, step_at}
 use Rattle.vc_occam.specs.SiteActions as action
 use Rattle.vc_packets.specs.declared.bytes.Bytes.{Bytes}
 use Rattle.vc_process.specs.Terms.{store}
-use Rattle.vc_occam.proofs.Acted.{can_here, ended_went, went_here}
+use Rattle.vc_occam.proofs.SiteActs.{can_here, ended_went, went_here}
 use Rattle.vc_occam.proofs.OwnSite.{finish_did, frame_is_own}
 use Rattle.vc_occam.proofs.site_step.ResumeSiteStep.act.Goals as goal
 

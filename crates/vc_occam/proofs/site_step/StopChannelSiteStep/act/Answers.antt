@@ -3,7 +3,7 @@ use Rattle.vc_occam.specs.Frames.{view}
 use Rattle.vc_occam.specs.Private.SiteSteps.{one, step_at}
 use Rattle.vc_occam.specs.SiteActions as action
 use Rattle.vc_process.specs.Terms.{store}
-use Rattle.vc_occam.proofs.Acted.{ended_went}
+use Rattle.vc_occam.proofs.SiteActs.{ended_went}
 use Rattle.vc_occam.proofs.OwnSite.{frame_is_own, stop_did}
 use Rattle.vc_occam.proofs.site_step.StopChannelSiteStep.act.Goals as goal
 

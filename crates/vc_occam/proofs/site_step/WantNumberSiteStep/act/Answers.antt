@@ -12,7 +12,7 @@ use Rattle.vc_occam.specs.SiteActions as action
 use Rattle.vc_occam.specs.Traces.{set}
 use Rattle.vc_process.specs.Messages.{number_bytes, received}
 use Rattle.vc_process.specs.Terms.{store}
-use Rattle.vc_occam.proofs.Acted.{frame_can, rolled_went}
+use Rattle.vc_occam.proofs.SiteActs.{frame_can, rolled_went}
 use Rattle.vc_occam.proofs.OwnSite.{no_want}
 use Rattle.vc_occam.proofs.ProcessStep.{received_there, want_got}
 use Rattle.vc_occam.proofs.site_step.WantNumberSiteStep.act.Goals as goal

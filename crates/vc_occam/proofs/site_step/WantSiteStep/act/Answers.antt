@@ -9,7 +9,7 @@ use Rattle.vc_occam.specs.Private.SiteSteps.{one, step_at}
 use Rattle.vc_occam.specs.SiteActions as action
 use Rattle.vc_packets.specs.declared.bytes.Bytes.{Bytes}
 use Rattle.vc_process.specs.Terms.{store}
-use Rattle.vc_occam.proofs.Acted.{frame_can, rolled_went}
+use Rattle.vc_occam.proofs.SiteActs.{frame_can, rolled_went}
 use Rattle.vc_occam.proofs.OwnSite.{no_want}
 use Rattle.vc_occam.proofs.ProcessStep.{received_there, want_got, want_waits}
 use Rattle.vc_occam.proofs.site_step.WantSiteStep.act.Goals as goal

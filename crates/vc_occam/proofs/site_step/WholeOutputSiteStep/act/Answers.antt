@@ -2,7 +2,7 @@ use Rattle.vc_occam.specs.declared.frame.Frame.TheViews.{out-Frame}
 use Rattle.vc_occam.specs.Frames.{view}
 use Rattle.vc_occam.specs.Private.SiteSteps.{step_at, whole_output}
 use Rattle.vc_process.specs.Terms.{store}
-use Rattle.vc_occam.proofs.Acted.{ended_went}
+use Rattle.vc_occam.proofs.SiteActs.{ended_went}
 use Rattle.vc_occam.proofs.OwnSite.{frame_is_own, whole_did}
 use Rattle.vc_occam.proofs.site_step.WholeOutputSiteStep.act.Goals as goal
 

@@ -1,5 +1,5 @@
 use Rattle.std.proofs.Common.{refl}
-use Rattle.vc_plan.proofs.Accepting.{accepted}
+use Rattle.vc_plan.proofs.Acceptance.{accepted}
 use Rattle.vc_plan.proofs.accepted.Accepted.of.Goals as goal
 
 pub invariant_of-result : goal.invariant_of-result

@@ -6,7 +6,7 @@ use Rattle.vc_process.specs.Private.InOrder.{number_branch, number_guard}
 use Rattle.vc_process.specs.Numbering.{Numbered, numbered, NumberedBranch, NumberedGuard}
 use Rattle.vc_process.proofs.Everywhere.{of_seq, of_par, of_if, of_while, of_count, of_alt, not_itself, all_parts, one_part, behind_part, parts_split, all_branches, one_branch, behind_branch, branches_split, all_guards, one_guard, behind_guard, guards_split}
 use Rattle.vc_process.proofs.Numbers.{number_seq, number_par, number_while, number_count, number_if, number_alt, otherwise, number_branch_out, number_guard_out}
-use Rattle.vc_process.proofs.Reaching.{reaches_next, reaches_false, reaches_end}
+use Rattle.vc_process.proofs.Walks.{reaches_next, reaches_false, reaches_end}
 use Rattle.vc_process.proofs.asked.Asked.+everywhere.Goals as goal
 
 pub everywhere-returns-in-Seq : goal.everywhere-returns-in-Seq

@@ -2,7 +2,7 @@ use Rattle.vc_process.specs.Private.Questions.{asking}
 use Rattle.vc_process.specs.InOrder.{number}
 use Rattle.vc_process.specs.Private.InOrder.{number_branch, number_guard}
 use Rattle.vc_process.proofs.Everywhere.{all_parts, all_branches, all_guards}
-use Rattle.vc_process.proofs.Reaching.{Reaches}
+use Rattle.vc_process.proofs.Walks.{Reaches}
 use Rattle.vc_process.proofs.asked.Asked.+everywhere.Given as goal
 
 abbrev pub invariant-in_branches-loop-branch : goal.invariant-in_branches-loop-branch

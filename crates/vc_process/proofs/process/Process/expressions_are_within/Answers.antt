@@ -2,7 +2,7 @@ use Rattle.std.proofs.Common.{◌∙◌, sym, ap, []}
 use Rattle.vc_process.specs.InOrder.{number}
 use Rattle.vc_process.specs.ProcessLimits.{exps_within}
 use Rattle.vc_process.specs.Syntax.{Proc}
-use Rattle.vc_process.proofs.Answered.{within_is}
+use Rattle.vc_process.proofs.Questions.{within_is}
 use Rattle.vc_process.proofs.Numbers.{written_is}
 use Rattle.vc_process.proofs.process.Process.expressions_are_within.Goals as goal
 

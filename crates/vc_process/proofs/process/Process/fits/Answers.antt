@@ -2,7 +2,7 @@ use Rattle.std.proofs.Common.{◌∙◌, sym, ap}
 use Rattle.vc_process.specs.InOrder.{number}
 use Rattle.vc_process.specs.ProcessLimits.{names_fit}
 use Rattle.vc_process.specs.Syntax.{Proc}
-use Rattle.vc_process.proofs.Answered.{names_is}
+use Rattle.vc_process.proofs.Questions.{names_is}
 use Rattle.vc_process.proofs.Numbers.{written_is}
 use Rattle.vc_process.proofs.process.Process.fits.Goals as goal
 

@@ -2,7 +2,7 @@ use Rattle.std.proofs.lemmas.Result.{err_from_is_err_and}
 use Rattle.serde_json.specs.View.{view}
 use Rattle.vc_reader.specs.Processes.{read_process, read_branch, read_guard}
 use Rattle.vc_reader.proofs.Beside.{branch-fails, branch-read, while-fails, while-read, guard-fails, guard-read}
-use Rattle.vc_reader.proofs.Listed.{list_next, list_stops, list_ends}
+use Rattle.vc_reader.proofs.Lists.{list_next, list_stops, list_ends}
 use Rattle.vc_reader.proofs.process.WholeProcess.+process.Goals as goal
 
 pub parts-loop-item-preserved : goal.parts-loop-item-preserved

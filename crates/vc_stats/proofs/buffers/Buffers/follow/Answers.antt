@@ -3,8 +3,8 @@ use Rattle.std.proofs.lemmas.Bool.Decides.{nat_tests}
 use Rattle.std.proofs.lemmas.Result.{on_ok_weaker}
 use Rattle.vc_core.specs.Links.{buffered_in}
 use Rattle.vc_core.specs.State.{event_of, shown, state_of}
-use Rattle.vc_stats.proofs.Acting.{buffers_by}
-use Rattle.vc_stats.proofs.Following.{buffers_hold, buffers_still, some_same}
+use Rattle.vc_stats.proofs.Acts.{buffers_by}
+use Rattle.vc_stats.proofs.RunStates.{buffers_hold, buffers_still, some_same}
 use Rattle.vc_stats.proofs.buffers.Buffers.follow.Goals as goal
 
 pub returns-in_default : goal.returns-in_default

@@ -4,7 +4,7 @@ use Rattle.vc_accepted.specs.NetworkOf.{network_of}
 use Rattle.vc_core.specs.Links.{buffered_in}
 use Rattle.vc_stats.specs.Buffers.{IsOccupancyOf, unused}
 use Rattle.vc_stats.proofs.Busy.{idle_of}
-use Rattle.vc_stats.proofs.Receiving.{empty_first}
+use Rattle.vc_stats.proofs.BufferEvents.{empty_first}
 use Rattle.vc_stats.proofs.buffers.Buffers.new.Goals as goal
 
 pub returns : goal.returns

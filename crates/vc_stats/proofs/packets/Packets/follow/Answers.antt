@@ -2,7 +2,7 @@ use Rattle.std.proofs.Common.{◌∙◌, Some, None, sym}
 use Rattle.std.proofs.lemmas.Result.{on_ok_weaker}
 use Rattle.vc_core.specs.State.{shown, state_of}
 use Rattle.vc_tokens.specs.CodeTokens.{token}
-use Rattle.vc_stats.proofs.Packing.{none_in, packets_still, packets_step, same_with}
+use Rattle.vc_stats.proofs.PacketCounts.{none_in, packets_still, packets_step, same_with}
 use Rattle.vc_stats.proofs.packets.Packets.follow.Goals as goal
 
 pub returns-in_default : goal.returns-in_default

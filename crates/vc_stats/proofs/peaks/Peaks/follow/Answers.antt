@@ -1,8 +1,8 @@
 use Rattle.std.proofs.Common.{◌∙◌, sym, subst}
 use Rattle.vc_core.specs.State.{event_of, shown, state_of}
 use Rattle.vc_stats.specs.Private.Peaks.{AreRaised}
-use Rattle.vc_stats.proofs.Following.{peaks_raise, peaks_still}
-use Rattle.vc_stats.proofs.Acting.{puts_by}
+use Rattle.vc_stats.proofs.RunStates.{peaks_raise, peaks_still}
+use Rattle.vc_stats.proofs.Acts.{puts_by}
 use Rattle.vc_stats.proofs.peaks.Peaks.follow.Goals as goal
 
 pub returns-then-not-may_put : goal.returns-then-not-may_put

@@ -1,7 +1,7 @@
 use Rattle.std.proofs.Common.{◌==◌, ◌&&◌, ◌||◌, length, ap, ◌∙◌, refl}
 use Rattle.std.proofs.lemmas.Option.{slice_get_read}
 use Rattle.vc_stats.specs.Rows.{has}
-use Rattle.vc_stats.proofs.Rowed.{row_grows}
+use Rattle.vc_stats.proofs.NumberRows.{row_grows}
 use Rattle.vc_stats.proofs.rows.Rows.push.Goals as goal
 
 pub returns : goal.returns

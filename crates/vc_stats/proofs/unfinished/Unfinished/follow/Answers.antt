@@ -1,8 +1,8 @@
 use Rattle.std.proofs.Common.{◌∙◌, sym, subst}
 use Rattle.vc_core.specs.State.{event_of, shown, state_of}
 use Rattle.vc_stats.specs.Private.Times.{AreTurned}
-use Rattle.vc_stats.proofs.Following.{times_still, times_turn}
-use Rattle.vc_stats.proofs.Acting.{turns_by}
+use Rattle.vc_stats.proofs.RunStates.{times_still, times_turn}
+use Rattle.vc_stats.proofs.Acts.{turns_by}
 use Rattle.vc_stats.proofs.unfinished.Unfinished.follow.Goals as goal
 
 pub returns-then-not-may_turn : goal.returns-then-not-may_turn

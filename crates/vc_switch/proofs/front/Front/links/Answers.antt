@@ -1,6 +1,6 @@
 use Rattle.std.proofs.Common.{◌≤◌, ◌^◌, ◌+◌, ◌-◌, ◌*◌, ◌%◌, sym, subst, arith}
 use Rattle.std.proofs.Math.Pow.{pow_mono}
-use Rattle.vc_switch.proofs.Requested.{group_bits, small_pow}
+use Rattle.vc_switch.proofs.RequestMasks.{group_bits, small_pow}
 use Rattle.vc_switch.proofs.front.Front.links.Goals as goal
 
 pub overflow_sub-result : goal.overflow_sub-result

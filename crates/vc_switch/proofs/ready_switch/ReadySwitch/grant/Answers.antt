@@ -1,8 +1,8 @@
 use Rattle.std.proofs.Common.{sym, subst}
 use Rattle.vc_switch.specs.Private.Requests.{AreRouted}
 use Rattle.vc_switch.specs.SwitchView.{seen}
-use Rattle.vc_switch.proofs.Requested.{granted_same, asked_same}
-use Rattle.vc_switch.proofs.Readying.{ready_else, grants_else}
+use Rattle.vc_switch.proofs.RequestMasks.{granted_same, asked_same}
+use Rattle.vc_switch.proofs.Readiness.{ready_else, grants_else}
 use Rattle.vc_switch.proofs.ready_switch.ReadySwitch.grant.Goals as goal
 
 pub invariant_of-self : goal.invariant_of-self

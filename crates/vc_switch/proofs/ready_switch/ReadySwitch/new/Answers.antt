@@ -1,6 +1,6 @@
 use Rattle.std.proofs.Common.{refl}
-use Rattle.vc_switch.proofs.Requested.{asked_first, routed_first}
-use Rattle.vc_switch.proofs.Readying.{ready_first}
+use Rattle.vc_switch.proofs.RequestMasks.{asked_first, routed_first}
+use Rattle.vc_switch.proofs.Readiness.{ready_first}
 use Rattle.vc_switch.proofs.ready_switch.ReadySwitch.new.Goals as goal
 
 pub invariant_of-result : goal.invariant_of-result

@@ -1,5 +1,5 @@
 use Rattle.std.proofs.Common.{subst}
-use Rattle.vc_switch.proofs.Requested.{NextRoute, NoRoute, least_route, no_output, no_route}
+use Rattle.vc_switch.proofs.RequestMasks.{NextRoute, NoRoute, least_route, no_output, no_route}
 use Rattle.vc_switch.proofs.ready_switch.ReadySwitch.next_route.Goals as goal
 
 pub returns-in_err-input : goal.returns-in_err-input

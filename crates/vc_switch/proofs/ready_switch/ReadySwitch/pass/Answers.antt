@@ -4,8 +4,8 @@ use Rattle.vc_switch.specs.Private.Requests.{AreRouted}
 use Rattle.vc_switch.specs.SwitchView.{seen}
 use Rattle.vc_switch.specs.State.{plan_of, limit_of}
 use Rattle.vc_switch.specs.Switch.{Passes}
-use Rattle.vc_switch.proofs.Requested.{asked_else, asked_idle, asked_still, routed_told}
-use Rattle.vc_switch.proofs.Readying.{ready_else, passes_else, passes_grants}
+use Rattle.vc_switch.proofs.RequestMasks.{asked_else, asked_idle, asked_still, routed_told}
+use Rattle.vc_switch.proofs.Readiness.{ready_else, passes_else, passes_grants}
 use Rattle.vc_switch.proofs.ready_switch.ReadySwitch.pass.Goals as goal
 use Rattle.vc_switch.proofs.ready_switch.ReadySwitch.pass.Goals.{else-of-eq0-via-then-of-eq0+else-waits, else-of-eq0-via-else-of-eq0}
 

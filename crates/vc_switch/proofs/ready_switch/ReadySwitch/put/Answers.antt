@@ -1,7 +1,7 @@
 use Rattle.vc_switch.specs.SwitchView.{seen}
 use Rattle.vc_switch.specs.State.{plan_of}
-use Rattle.vc_switch.proofs.Requested.{sent_same, asked_same, asked_marked}
-use Rattle.vc_switch.proofs.Readying.{ready_sent, sent_inputs, sent_mark, ready_marked}
+use Rattle.vc_switch.proofs.RequestMasks.{sent_same, asked_same, asked_marked}
+use Rattle.vc_switch.proofs.Readiness.{ready_sent, sent_inputs, sent_mark, ready_marked}
 use Rattle.vc_switch.proofs.ready_switch.ReadySwitch.put.Goals as goal
 
 pub invariant_of-self : goal.invariant_of-self

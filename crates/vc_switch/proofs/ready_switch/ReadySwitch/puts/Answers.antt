@@ -3,7 +3,7 @@ use Rattle.std.specs.Int.{bit_at}
 use Rattle.vc_switch.specs.Able.{CanPut, IsFree}
 use Rattle.vc_switch.specs.SwitchView.{seen}
 use Rattle.vc_switch.specs.State.{plan_of}
-use Rattle.vc_switch.proofs.Readying.{putting_bound}
+use Rattle.vc_switch.proofs.Readiness.{putting_bound}
 use Rattle.vc_switch.proofs.ready_switch.ReadySwitch.puts.Goals as goal
 
 pub returns-clause-bound : goal.returns-clause-bound

@@ -1,5 +1,5 @@
-use Rattle.vc_switch.proofs.Requested.{asked_routed}
-use Rattle.vc_switch.proofs.Readying.{ready_routed}
+use Rattle.vc_switch.proofs.RequestMasks.{asked_routed}
+use Rattle.vc_switch.proofs.Readiness.{ready_routed}
 use Rattle.vc_switch.proofs.ready_switch.ReadySwitch.route.Goals as goal
 
 pub invariant_of-self : goal.invariant_of-self

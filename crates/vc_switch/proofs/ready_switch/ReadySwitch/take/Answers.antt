@@ -2,8 +2,8 @@ use Rattle.std.proofs.Common.{subst}
 use Rattle.vc_tokens.specs.CodeTokens.{token}
 use Rattle.vc_switch.specs.Switch.{Comes}
 use Rattle.vc_switch.specs.SwitchView.{seen, IsKept}
-use Rattle.vc_switch.proofs.Requested.{came_same, asked_same}
-use Rattle.vc_switch.proofs.Readying.{ready_came, comes_else, told_is}
+use Rattle.vc_switch.proofs.RequestMasks.{came_same, asked_same}
+use Rattle.vc_switch.proofs.Readiness.{ready_came, comes_else, told_is}
 use Rattle.vc_switch.proofs.ready_switch.ReadySwitch.take.Goals as goal
 
 pub invariant_of-self : goal.invariant_of-self

@@ -1,4 +1,4 @@
-use Rattle.vc_switch.proofs.Requested.{none_asked, none_asking}
+use Rattle.vc_switch.proofs.RequestMasks.{none_asked, none_asking}
 use Rattle.vc_switch.proofs.requests.Requests.new.Goals as goal
 
 pub invariant_of-result : goal.invariant_of-result

@@ -1,8 +1,8 @@
 use Rattle.std.proofs.Common.{◌≡◌, ◌<◌, sym, ap, ◌∙◌, subst, slice_get, Some, None}
 use Rattle.std.proofs.lemmas.Option.{slice_get_read}
 use Rattle.vc_switch.specs.State.{IsSwitch, output_of}
-use Rattle.vc_switch.proofs.Placed.{at_link}
-use Rattle.vc_switch.proofs.Showing.{bound_is, input_at}
+use Rattle.vc_switch.proofs.ListWrites.{at_link}
+use Rattle.vc_switch.proofs.ListChanges.{bound_is, input_at}
 use Rattle.vc_switch.proofs.switch.Switch.bound_to.Goals as goal
 
 pub index-requires : goal.index-requires

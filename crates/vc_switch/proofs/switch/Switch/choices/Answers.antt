@@ -3,8 +3,8 @@ use Rattle.vc_switch.specs.State.{State, IsSwitch}
 use Rattle.vc_switch.specs.Front.{front_of}
 use Rattle.vc_switch.specs.Private.Front.{HasFront}
 use Rattle.vc_switch.proofs.Beyond.{none_leaves}
-use Rattle.vc_switch.proofs.Placed.{got, got_none}
-use Rattle.vc_switch.proofs.Routing.{choices_busy, choices_none, choices_some}
+use Rattle.vc_switch.proofs.ListWrites.{got, got_none}
+use Rattle.vc_switch.proofs.Routes.{choices_busy, choices_none, choices_some}
 use Rattle.vc_switch.proofs.switch.Switch.choices.Goals as goal
 
 pub returns-then-not-is_idle : goal.returns-then-not-is_idle

@@ -1,7 +1,7 @@
 use Rattle.std.proofs.Common.{◌∙◌, sym, ap, false}
 use Rattle.vc_switch.specs.State.{State}
 use Rattle.vc_packets.specs.Functions.{shown_or}
-use Rattle.vc_switch.proofs.Placed.{got, got_none}
+use Rattle.vc_switch.proofs.ListWrites.{got, got_none}
 use Rattle.vc_switch.proofs.switch.Switch.does_delete.Goals as goal
 
 pub returns-in-Some : goal.returns-in-Some

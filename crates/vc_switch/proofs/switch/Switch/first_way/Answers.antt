@@ -6,7 +6,7 @@ use Rattle.vc_switch.specs.Front.{front_of}
 use Rattle.vc_switch.specs.Private.Front.{start_of, HasFront}
 use Rattle.vc_switch.specs.declared.front.Front.{Front}
 use Rattle.vc_switch.proofs.Fronts.{gone}
-use Rattle.vc_switch.proofs.Routing.{first_leaves, start_within}
+use Rattle.vc_switch.proofs.Routes.{first_leaves, start_within}
 use Rattle.vc_switch.proofs.switch.Switch.first_way.Goals as goal
 
 pub returns-in-Some : goal.returns-in-Some

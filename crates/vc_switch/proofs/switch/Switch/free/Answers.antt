@@ -1,7 +1,7 @@
 use Rattle.std.proofs.Common.{◌∙◌, ap, subst}
 use Rattle.vc_switch.specs.State.{State, IsSwitch}
 use Rattle.vc_switch.proofs.Beyond.{free_there, no_free}
-use Rattle.vc_switch.proofs.Placed.{got, got_none}
+use Rattle.vc_switch.proofs.ListWrites.{got, got_none}
 use Rattle.vc_switch.proofs.switch.Switch.free.Goals as goal
 
 pub returns-in-Some : goal.returns-in-Some

@@ -3,10 +3,10 @@ use Rattle.std.proofs.lemmas.Option.{slice_get_read}
 use Rattle.vc_switch.specs.Switch.{SendsFct}
 use Rattle.vc_switch.specs.State.{State, plan_of, limit_of, output_of}
 use Rattle.vc_switch.specs.SwitchView.{IsKept}
-use Rattle.vc_switch.proofs.Placed.{at_link}
-use Rattle.vc_switch.proofs.Showing.{told}
-use Rattle.vc_switch.proofs.Keeping.{link_in, switch_in, kept_limit}
-use Rattle.vc_switch.proofs.Stepping.{grants_fct, link_granted}
+use Rattle.vc_switch.proofs.ListWrites.{at_link}
+use Rattle.vc_switch.proofs.ListChanges.{told}
+use Rattle.vc_switch.proofs.Preservation.{link_in, switch_in, kept_limit}
+use Rattle.vc_switch.proofs.Steps.{grants_fct, link_granted}
 use Rattle.vc_switch.proofs.switch.Switch.grant.Goals as goal
 
 pub invariant_of-self : goal.invariant_of-self

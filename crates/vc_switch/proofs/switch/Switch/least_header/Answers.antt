@@ -3,8 +3,8 @@ use Rattle.vc_switch.specs.Forward.{IsDrawn, least_of}
 use Rattle.vc_switch.specs.State.{State, IsRange, interval_of}
 use Rattle.vc_packets.specs.Functions.{shown_or}
 use Rattle.vc_switch.specs.Switch.{drawn}
-use Rattle.vc_switch.proofs.Placed.{all-at, got, got_none}
-use Rattle.vc_switch.proofs.Stepping.{least_drawn, least_is}
+use Rattle.vc_switch.proofs.ListWrites.{all-at, got, got_none}
+use Rattle.vc_switch.proofs.Steps.{least_drawn, least_is}
 use Rattle.vc_switch.proofs.switch.Switch.least_header.Goals as goal
 
 pub draw-requires : goal.draw-requires

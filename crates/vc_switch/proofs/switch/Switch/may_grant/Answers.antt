@@ -1,7 +1,7 @@
 use Rattle.std.proofs.Common.{subst}
 use Rattle.vc_switch.specs.State.{State, IsSwitch}
 use Rattle.vc_switch.proofs.Beyond.{grant_there}
-use Rattle.vc_switch.proofs.Enabling.{input_read}
+use Rattle.vc_switch.proofs.Enablement.{input_read}
 use Rattle.vc_switch.proofs.switch.Switch.may_grant.Goals as goal
 
 pub returns-then-link-lt-LINKS : goal.returns-then-link-lt-LINKS

@@ -2,7 +2,7 @@ use Rattle.std.proofs.Common.{subst, arith}
 use Rattle.std.proofs.lemmas.Bool.{ltb-true}
 use Rattle.vc_switch.specs.State.{State, IsSwitch}
 use Rattle.vc_switch.proofs.Beyond.{no_pass}
-use Rattle.vc_switch.proofs.Enabling.{input_read, pass_iff}
+use Rattle.vc_switch.proofs.Enablement.{input_read, pass_iff}
 use Rattle.vc_switch.proofs.switch.Switch.may_pass.Goals as goal
 
 pub returns-then-link-lt-LINKS : goal.returns-then-link-lt-LINKS

@@ -3,8 +3,8 @@ use Rattle.std.proofs.lemmas.Option.{slice_get_read}
 use Rattle.vc_switch.specs.State.{State, IsSwitch, plan_of}
 use Rattle.vc_switch.specs.SwitchView.{seen}
 use Rattle.vc_switch.proofs.Beyond.{sourced_within}
-use Rattle.vc_switch.proofs.Placed.{read_there, at_link, at_some}
-use Rattle.vc_switch.proofs.Putting.{free_puts, put_iff, no_credit, bound_there, next_within}
+use Rattle.vc_switch.proofs.ListWrites.{read_there, at_link, at_some}
+use Rattle.vc_switch.proofs.Puts.{free_puts, put_iff, no_credit, bound_there, next_within}
 use Rattle.vc_switch.proofs.switch.Switch.may_put.Goals as goal
 
 pub returns-in-None : goal.returns-in-None

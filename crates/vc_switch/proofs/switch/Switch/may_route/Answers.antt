@@ -1,6 +1,6 @@
 use Rattle.vc_switch.specs.State.{plan_of}
 use Rattle.vc_switch.specs.SwitchView.{seen}
-use Rattle.vc_switch.proofs.Routing.{in_group_free, out_of_group, no_group}
+use Rattle.vc_switch.proofs.Routes.{in_group_free, out_of_group, no_group}
 use Rattle.vc_switch.proofs.switch.Switch.may_route.Goals as goal
 
 pub returns-then-is_within : goal.returns-then-is_within

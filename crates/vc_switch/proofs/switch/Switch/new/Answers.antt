@@ -1,7 +1,7 @@
 use Rattle.std.proofs.Common.{◌≡◌, subst, sym, ap, ◌∙◌}
 use Rattle.vc_switch.specs.State.{State, IsSwitch, plan_of, limit_of}
 use Rattle.vc_switch.specs.SwitchView.{seen}
-use Rattle.vc_switch.proofs.Opened.{begun, begun_switch, begun_seen, begun_plan, begun_limit}
+use Rattle.vc_switch.proofs.OpeningState.{begun, begun_switch, begun_seen, begun_plan, begun_limit}
 use Rattle.vc_switch.proofs.switch.Switch.new.Goals as goal
 
 pub invariant_of-result : goal.invariant_of-result

@@ -1,11 +1,11 @@
 use Rattle.std.proofs.Common.{sym, refl, subst}
-use Rattle.vc_switch.proofs.Placed.{at_link}
+use Rattle.vc_switch.proofs.ListWrites.{at_link}
 use Rattle.vc_tokens.specs.CodeTokens.{token}
 use Rattle.vc_tokens.specs.Tokens.{Byte}
 use Rattle.vc_credit.specs.Ends.{IsFront}
 use Rattle.vc_switch.specs.SwitchView.{seen}
 use Rattle.vc_switch.specs.State.{State, plan_of, limit_of}
-use Rattle.vc_switch.proofs.Enabling.{input_read, waits_by}
+use Rattle.vc_switch.proofs.Enablement.{input_read, waits_by}
 use Rattle.vc_switch.proofs.switch.Switch.pass.Goals as goal
 
 pub pass_byte-requires-clause-open : goal.pass_byte-requires-clause-open

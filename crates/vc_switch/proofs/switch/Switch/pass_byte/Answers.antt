@@ -5,11 +5,11 @@ use Rattle.vc_credit.specs.Ends.{IsFront}
 use Rattle.vc_switch.specs.Switch.{Passes, drawn}
 use Rattle.vc_switch.specs.State.{State, IsRange, interval_of, plan_of, limit_of, output_of}
 use Rattle.vc_switch.specs.SwitchView.{seen, IsKept}
-use Rattle.vc_switch.proofs.Placed.{all-at, at_link}
-use Rattle.vc_switch.proofs.Showing.{input_at}
+use Rattle.vc_switch.proofs.ListWrites.{all-at, at_link}
+use Rattle.vc_switch.proofs.ListChanges.{input_at}
 use Rattle.vc_packets.specs.Counters.{one_more}
-use Rattle.vc_switch.proofs.Keeping.{link_in, switch_in, kept_limit, room_at}
-use Rattle.vc_switch.proofs.Stepping.{header_at, byte_passes, byte_drops, link_byte, link_dropped}
+use Rattle.vc_switch.proofs.Preservation.{link_in, switch_in, kept_limit, room_at}
+use Rattle.vc_switch.proofs.Steps.{header_at, byte_passes, byte_drops, link_byte, link_dropped}
 use Rattle.vc_switch.proofs.switch.Switch.pass_byte.Goals as goal
 
 pub invariant_of-self : goal.invariant_of-self

@@ -3,7 +3,7 @@ use Rattle.vc_switch.specs.Switch.{new_input}
 use Rattle.vc_switch.specs.SwitchView.{input_of}
 use Rattle.vc_switch.specs.State.{State}
 use Rattle.vc_packets.specs.Functions.{shown_or}
-use Rattle.vc_switch.proofs.Placed.{got, got_none}
+use Rattle.vc_switch.proofs.ListWrites.{got, got_none}
 use Rattle.vc_switch.proofs.switch.Switch.passed.Goals as goal
 
 pub bytes-requires : goal.bytes-requires

@@ -1,9 +1,9 @@
 use Rattle.std.proofs.Common.{◌+◌, subst, Some, None}
 use Rattle.vc_switch.specs.SwitchView.{seen}
-use Rattle.vc_switch.proofs.Placed.{at_some}
-use Rattle.vc_switch.proofs.Putting.{free_puts, bound_there, next_within}
+use Rattle.vc_switch.proofs.ListWrites.{at_some}
+use Rattle.vc_switch.proofs.Puts.{free_puts, bound_there, next_within}
 use Rattle.vc_switch.specs.State.{State, IsSwitch, plan_of}
-use Rattle.vc_switch.proofs.Showing.{next_there}
+use Rattle.vc_switch.proofs.ListChanges.{next_there}
 use Rattle.vc_switch.proofs.switch.Switch.put.Goals as goal
 
 pub put_byte-requires-clause-bound : goal.put_byte-requires-clause-bound

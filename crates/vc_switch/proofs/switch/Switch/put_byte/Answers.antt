@@ -7,9 +7,9 @@ use Rattle.vc_tokens.specs.Tokens.{Byte}
 use Rattle.vc_switch.specs.Able.{CanPut}
 use Rattle.vc_switch.specs.Waiting.{Wormhole}
 use Rattle.vc_switch.specs.Switch.{Sends}
-use Rattle.vc_switch.proofs.Placed.{read_there}
-use Rattle.vc_switch.proofs.Keeping.{switch_two}
-use Rattle.vc_switch.proofs.Putting.{sends_byte, link_advanced, can_there}
+use Rattle.vc_switch.proofs.ListWrites.{read_there}
+use Rattle.vc_switch.proofs.Preservation.{switch_two}
+use Rattle.vc_switch.proofs.Puts.{sends_byte, link_advanced, can_there}
 use Rattle.vc_switch.proofs.switch.Switch.put_byte.Goals as goal
 
 pub index_mut-requires : goal.index_mut-requires

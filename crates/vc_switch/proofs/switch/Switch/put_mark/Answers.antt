@@ -7,9 +7,9 @@ use Rattle.vc_switch.specs.Private.SwitchView.{IsBoundTo}
 use Rattle.vc_switch.specs.Able.{CanPut}
 use Rattle.vc_switch.specs.Waiting.{Wormhole}
 use Rattle.vc_switch.specs.Switch.{Sends}
-use Rattle.vc_switch.proofs.Placed.{read_there, some_at, at_link, at_some}
-use Rattle.vc_switch.proofs.Putting.{sends_mark, switch_freed, can_there, nothing_next, bound_there}
-use Rattle.vc_switch.proofs.Keeping.{kept_limit}
+use Rattle.vc_switch.proofs.ListWrites.{read_there, some_at, at_link, at_some}
+use Rattle.vc_switch.proofs.Puts.{sends_mark, switch_freed, can_there, nothing_next, bound_there}
+use Rattle.vc_switch.proofs.Preservation.{kept_limit}
 use Rattle.vc_switch.proofs.switch.Switch.put_mark.Goals as goal
 
 pub unreachable-requires : goal.unreachable-requires

@@ -4,8 +4,8 @@ use Rattle.vc_labels.specs.Lawful.{starts_at}
 use Rattle.vc_switch.specs.State.{IsSwitch}
 use Rattle.vc_switch.specs.Front.{front_of}
 use Rattle.vc_switch.specs.Private.Front.{HasFront}
-use Rattle.vc_switch.proofs.Requested.{no_bit}
-use Rattle.vc_switch.proofs.Routing.{links, unbound_at, choices_none, choices_some}
+use Rattle.vc_switch.proofs.RequestMasks.{no_bit}
+use Rattle.vc_switch.proofs.Routes.{links, unbound_at, choices_none, choices_some}
 use Rattle.vc_switch.proofs.switch.Switch.requests.Goals as goal
 
 pub links-requires-clause-group : goal.links-requires-clause-group

@@ -3,14 +3,14 @@ use Rattle.std.proofs.lemmas.Option.{slice_get_read}
 use Rattle.vc_switch.specs.State.{State, IsSwitch, plan_of}
 use Rattle.vc_packets.specs.Functions.{shown_or}
 use Rattle.vc_switch.specs.SwitchView.{seen, IsKept}
-use Rattle.vc_switch.proofs.Placed.{same_read, at_link}
+use Rattle.vc_switch.proofs.ListWrites.{same_read, at_link}
 use Rattle.vc_switch.specs.Able.{CanRoute}
 use Rattle.vc_switch.specs.Waiting.{Wormhole}
 use Rattle.vc_switch.specs.Switch.{Routes}
 use Rattle.vc_switch.specs.Front.{front_of}
 use Rattle.vc_switch.specs.Private.Front.{start_of}
-use Rattle.vc_switch.proofs.Keeping.{kept_limit}
-use Rattle.vc_switch.proofs.Routing.{under_way, switch_routed, routes, choices_none, route_leaves}
+use Rattle.vc_switch.proofs.Preservation.{kept_limit}
+use Rattle.vc_switch.proofs.Routes.{under_way, switch_routed, routes, choices_none, route_leaves}
 use Rattle.vc_switch.proofs.switch.Switch.route.Goals as goal
 
 pub unreachable-requires : goal.unreachable-requires

@@ -2,7 +2,7 @@ use Rattle.std.proofs.Common.{◌≡◌, ◌<◌, arith, refl, subst, sym, slice
 use Rattle.std.proofs.lemmas.Option.{slice_get_read, slice_get_past}
 use Rattle.vc_switch.specs.State.{IsSwitch}
 use Rattle.vc_switch.proofs.Beyond.{free_past}
-use Rattle.vc_switch.proofs.Readying.{source_tells}
+use Rattle.vc_switch.proofs.Readiness.{source_tells}
 use Rattle.vc_switch.proofs.switch.Switch.source.Goals as goal
 
 pub returns-then-output-lt-LINKS : goal.returns-then-output-lt-LINKS

@@ -3,10 +3,10 @@ use Rattle.std.proofs.lemmas.Option.{slice_get_read}
 use Rattle.vc_switch.specs.Switch.{Comes}
 use Rattle.vc_switch.specs.State.{State, plan_of, limit_of, output_of}
 use Rattle.vc_switch.specs.SwitchView.{seen}
-use Rattle.vc_switch.proofs.Showing.{told}
+use Rattle.vc_switch.proofs.ListChanges.{told}
 use Rattle.vc_tokens.specs.Tokens.{Fct}
-use Rattle.vc_switch.proofs.Keeping.{link_in, switch_two}
-use Rattle.vc_switch.proofs.Stepping.{fct_due, fct_dropped, link_word}
+use Rattle.vc_switch.proofs.Preservation.{link_in, switch_two}
+use Rattle.vc_switch.proofs.Steps.{fct_due, fct_dropped, link_word}
 use Rattle.vc_switch.proofs.switch.Switch.take_credit.Goals as goal
 
 pub invariant_of-self : goal.invariant_of-self

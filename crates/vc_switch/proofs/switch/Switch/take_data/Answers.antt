@@ -4,9 +4,9 @@ use Rattle.vc_tokens.specs.CodeTokens.{token}
 use Rattle.vc_switch.specs.Switch.{Comes}
 use Rattle.vc_switch.specs.State.{State, plan_of, limit_of, output_of}
 use Rattle.vc_switch.specs.SwitchView.{seen}
-use Rattle.vc_switch.proofs.Showing.{told}
-use Rattle.vc_switch.proofs.Keeping.{link_in, switch_in}
-use Rattle.vc_switch.proofs.Stepping.{data_due, data_dropped, link_came, link_word}
+use Rattle.vc_switch.proofs.ListChanges.{told}
+use Rattle.vc_switch.proofs.Preservation.{link_in, switch_in}
+use Rattle.vc_switch.proofs.Steps.{data_due, data_dropped, link_came, link_word}
 use Rattle.vc_switch.proofs.switch.Switch.take_data.Goals as goal
 
 pub invariant_of-self : goal.invariant_of-self

@@ -1,7 +1,7 @@
 use Rattle.std.proofs.Common.{[], ◌∷◌, ◌++◌, sym, ap, subst, ◌∙◌}
 use Rattle.vc_text.specs.EventLog.{Fit, events_of, act_of}
 use Rattle.vc_text.specs.declared.entry.Entry.{Entry}
-use Rattle.vc_text.proofs.Entering.{fits_brief, brief_more}
+use Rattle.vc_text.proofs.LogEntries.{fits_brief, brief_more}
 use Rattle.vc_text.proofs.event_log.EventLog.enter.Goals as goal
 
 pub invariant_of-self-2 : goal.invariant_of-self-2

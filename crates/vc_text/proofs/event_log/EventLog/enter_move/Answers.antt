@@ -3,7 +3,7 @@ use Rattle.vc_actor.specs.declared.act.Act.TheVariants.{Proc}
 use Rattle.vc_text.specs.EventLog.{Fit, events_of}
 use Rattle.vc_text.specs.declared.entry.Brief.TheVariants as brief
 use Rattle.vc_text.specs.declared.entry.Entry.{Entry}
-use Rattle.vc_text.proofs.Entering.{fits_move, move_more}
+use Rattle.vc_text.proofs.LogEntries.{fits_move, move_more}
 use Rattle.vc_text.proofs.event_log.EventLog.enter_move.Goals as goal
 
 pub invariant_of-self-in_default : goal.invariant_of-self-in_default

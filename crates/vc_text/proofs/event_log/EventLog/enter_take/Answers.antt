@@ -3,7 +3,7 @@ use Rattle.vc_actor.specs.declared.act.Act.TheVariants.{Take}
 use Rattle.vc_text.specs.EventLog.{Fit, events_of}
 use Rattle.vc_text.specs.declared.entry.Brief.TheVariants as brief
 use Rattle.vc_text.specs.declared.entry.Entry.{Entry}
-use Rattle.vc_text.proofs.Entering.{fits_word, word_more}
+use Rattle.vc_text.proofs.LogEntries.{fits_word, word_more}
 use Rattle.vc_text.proofs.event_log.EventLog.enter_take.Goals as goal
 
 pub invariant_of-self-in_default : goal.invariant_of-self-in_default

@@ -1,6 +1,6 @@
 use Rattle.std.proofs.Common.{◌≡◌, [], refl, sym, subst, ◌∙◌}
 use Rattle.vc_text.specs.EventLog.{events_of}
-use Rattle.vc_text.proofs.Entering.{none_of_none}
+use Rattle.vc_text.proofs.LogEntries.{none_of_none}
 use Rattle.vc_text.proofs.event_log.EventLog.is_empty.Goals as goal
 
 pub returns : goal.returns

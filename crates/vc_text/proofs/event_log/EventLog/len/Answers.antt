@@ -1,5 +1,5 @@
 use Rattle.std.proofs.Common.{length, sym, ap, ◌∙◌}
-use Rattle.vc_text.proofs.Entering.{as_many}
+use Rattle.vc_text.proofs.LogEntries.{as_many}
 use Rattle.vc_text.proofs.event_log.EventLog.len.Goals as goal
 
 pub returns : goal.returns

@@ -1,6 +1,6 @@
 use Rattle.std.proofs.Common.{◌∷◌, ◌++◌, [], ap, arith, length, length-append, slice_get, ◌∙◌}
 use Rattle.vc_threads.specs.Runs.{generator}
-use Rattle.vc_text.proofs.Drawing.{generators_begun}
+use Rattle.vc_text.proofs.GeneratorDraws.{generators_begun}
 use Rattle.vc_text.proofs.generators.Generators.new.Goals as goal
 
 pub loop-actor-preserved : goal.loop-actor-preserved

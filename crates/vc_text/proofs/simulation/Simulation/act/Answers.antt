@@ -4,9 +4,9 @@ use Rattle.vc_core.specs.Turns.{FindsFront}
 use Rattle.vc_core.specs.declared.event.Event.{Event}
 use Rattle.vc_core.proofs.Awake.{front_happens}
 use Rattle.vc_actor.specs.declared.act.Act.TheVariants.{Take}
-use Rattle.vc_text.proofs.Drawing.{given_take}
-use Rattle.vc_text.proofs.Quieting.{acts_quiet}
-use Rattle.vc_text.proofs.Simulated.{one_more}
+use Rattle.vc_text.proofs.GeneratorDraws.{given_take}
+use Rattle.vc_text.proofs.QuietActors.{acts_quiet}
+use Rattle.vc_text.proofs.LongerRuns.{one_more}
 use Rattle.vc_text.proofs.simulation.Simulation.act.Goals as goal
 
 pub returns-in_default-clause-made : goal.returns-in_default-clause-made

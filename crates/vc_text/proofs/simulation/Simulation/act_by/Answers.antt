@@ -2,9 +2,9 @@ use Rattle.std.proofs.Common.{◌≡◌, refl, subst, sym}
 use Rattle.vc_core.specs.State.{state_of, MakesOne}
 use Rattle.vc_core.specs.Turns.{FindsEventOf}
 use Rattle.vc_core.specs.Replay.{Reached}
-use Rattle.vc_text.proofs.Drawing.{given_still}
-use Rattle.vc_text.proofs.Quieting.{acts_quiet, same_quiet}
-use Rattle.vc_text.proofs.Simulated.{one_more}
+use Rattle.vc_text.proofs.GeneratorDraws.{given_still}
+use Rattle.vc_text.proofs.QuietActors.{acts_quiet, same_quiet}
+use Rattle.vc_text.proofs.LongerRuns.{one_more}
 use Rattle.vc_text.proofs.simulation.Simulation.act_by.Goals as goal
 
 pub returns-clause-runs : goal.returns-clause-runs

@@ -1,5 +1,5 @@
 use Rattle.std.proofs.Common.{Ok, ap}
-use Rattle.vc_text.proofs.Simulated.{counts, goes_on}
+use Rattle.vc_text.proofs.LongerRuns.{counts, goes_on}
 use Rattle.vc_text.proofs.simulation.Simulation.draw_events.Goals as goal
 
 pub returns-clause-runs : goal.returns-clause-runs

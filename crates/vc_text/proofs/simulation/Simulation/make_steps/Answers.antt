@@ -1,6 +1,6 @@
 use Rattle.std.proofs.Common.{refl}
 use Rattle.vc_core.specs.State.{state_of}
-use Rattle.vc_text.proofs.Simulated.{more_steps}
+use Rattle.vc_text.proofs.LongerRuns.{more_steps}
 use Rattle.vc_text.proofs.simulation.Simulation.make_steps.Goals as goal
 
 pub returns-in-Some-clause-runs : goal.returns-in-Some-clause-runs

@@ -1,8 +1,8 @@
 use Rattle.std.proofs.Common.{[], arith, refl}
 use Rattle.vc_core.specs.State.{state_of}
-use Rattle.vc_core.proofs.Leaving.{few}
-use Rattle.vc_core.proofs.Replayed.{reached_first}
-use Rattle.vc_text.proofs.Drawing.{none_given}
+use Rattle.vc_core.proofs.WayTable.{few}
+use Rattle.vc_core.proofs.ReplayRuns.{reached_first}
+use Rattle.vc_text.proofs.GeneratorDraws.{none_given}
 use Rattle.vc_text.proofs.simulation.Simulation.new.Goals as goal
 
 pub returns-clause-opens : goal.returns-clause-opens

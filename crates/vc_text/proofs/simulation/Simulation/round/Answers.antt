@@ -5,10 +5,10 @@ use Rattle.std.specs.Int.{bit_at}
 use Rattle.vc_core.specs.State.{state_of}
 use Rattle.vc_core.specs.Private.Turns.{Rests, IsAtRest}
 use Rattle.vc_actor.specs.Turns.{actors}
-use Rattle.vc_core.proofs.Leaving.{few}
-use Rattle.vc_text.proofs.Closing.{all_rest, still, counted_few}
-use Rattle.vc_text.proofs.Quieting.{bit_after, not_after, fewer_after}
-use Rattle.vc_text.proofs.Simulated.{stays_on, then_on}
+use Rattle.vc_core.proofs.WayTable.{few}
+use Rattle.vc_text.proofs.Closes.{all_rest, still, counted_few}
+use Rattle.vc_text.proofs.QuietActors.{bit_after, not_after, fewer_after}
+use Rattle.vc_text.proofs.LongerRuns.{stays_on, then_on}
 use Rattle.vc_text.proofs.simulation.Simulation.round.Goals as goal
 
 pub loop-actor-init : goal.loop-actor-init

@@ -1,7 +1,7 @@
 use Rattle.std.proofs.Common.{◌≤◌, Ok, ap, subst, sym}
 use Rattle.vc_text.specs.Private.Simulation.{LeadsOnSoFar, all_awake}
 use Rattle.vc_text.specs.declared.simulation.Progress.{Progress}
-use Rattle.vc_text.proofs.Simulated.{counts, goes_on, stays_on}
+use Rattle.vc_text.proofs.LongerRuns.{counts, goes_on, stays_on}
 use Rattle.vc_text.proofs.simulation.Simulation.rounds.Goals as goal
 
 pub loop-self-init : goal.loop-self-init

@@ -1,5 +1,5 @@
 use Rattle.std.proofs.Common.{arith}
-use Rattle.vc_text.proofs.Simulated.{stays_on}
+use Rattle.vc_text.proofs.LongerRuns.{stays_on}
 use Rattle.vc_text.proofs.simulation.Simulation.stretch.Goals as goal
 
 pub loop-init : goal.loop-init

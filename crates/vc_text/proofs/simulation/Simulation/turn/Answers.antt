@@ -4,9 +4,9 @@ use Rattle.vc_core.specs.State.{state_of, MakesOne}
 use Rattle.vc_core.specs.Turns.{FindsEvent}
 use Rattle.vc_core.specs.Replay.{Reached}
 use Rattle.vc_core.proofs.Awake.{rests_here}
-use Rattle.vc_text.proofs.Drawing.{given_still}
-use Rattle.vc_text.proofs.Quieting.{acts_quiet, one_quiet, same_quiet}
-use Rattle.vc_text.proofs.Simulated.{one_more}
+use Rattle.vc_text.proofs.GeneratorDraws.{given_still}
+use Rattle.vc_text.proofs.QuietActors.{acts_quiet, one_quiet, same_quiet}
+use Rattle.vc_text.proofs.LongerRuns.{one_more}
 use Rattle.vc_text.proofs.simulation.Simulation.turn.Goals as goal
 
 -- it had one, or it had none

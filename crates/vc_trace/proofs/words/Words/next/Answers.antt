@@ -1,6 +1,6 @@
 use Rattle.std.proofs.Common.{◌++◌, ◌∙◌}
 use Rattle.vc_trace.specs.EventText.{spaced}
-use Rattle.vc_trace.proofs.Parting.{behind, word_parts}
+use Rattle.vc_trace.proofs.LineWords.{behind, word_parts}
 use Rattle.vc_trace.proofs.words.Words.next.Goals as goal
 
 pub returns-clause-word : goal.returns-clause-word

@@ -1,4 +1,4 @@
-use Rattle.vc_vcp.proofs.Hinting.{AreHintedTo}
+use Rattle.vc_vcp.proofs.HintNotes.{AreHintedTo}
 use Rattle.vc_vcp.proofs.hints.Hints.of_inputs.Given as goal
 
 abbrev pub invariant-loop-i : goal.invariant-loop-i

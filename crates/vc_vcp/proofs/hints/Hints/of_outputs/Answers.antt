@@ -1,6 +1,6 @@
 use Rattle.std.proofs.Common.{length, refl, arith}
 use Rattle.std.proofs.lemmas.Option.{slice_get_read}
-use Rattle.vc_vcp.proofs.Hinting.{hinted-none, hinted-more, hinted-all}
+use Rattle.vc_vcp.proofs.HintNotes.{hinted-none, hinted-more, hinted-all}
 use Rattle.vc_vcp.proofs.hints.Hints.of_outputs.Goals as goal
 
 pub loop-i-init : goal.loop-i-init

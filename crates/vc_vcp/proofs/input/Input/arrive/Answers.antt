@@ -1,8 +1,8 @@
 use Rattle.std.proofs.Common.{◌≡◌, sym, refl, ◌∙◌, subst, IfOk}
 use Rattle.vc_blocks.specs.Arrivals.{after_arrival, arrival_of}
 use Rattle.vc_vcp.specs.Private.Queues.{logged}
-use Rattle.vc_vcp.proofs.Placed.{always_on_err}
-use Rattle.vc_vcp.proofs.Holding.{held_queue}
+use Rattle.vc_vcp.proofs.ListWrites.{always_on_err}
+use Rattle.vc_vcp.proofs.Holds.{held_queue}
 use Rattle.vc_vcp.proofs.input.Input.arrive.Goals as goal
 
 pub returns-then-not-wants-clause-queue : goal.returns-then-not-wants-clause-queue

@@ -5,10 +5,10 @@ use Rattle.vc_vcp.specs.Links.{Comes}
 use Rattle.vc_vcp.specs.State.{State}
 use Rattle.vc_vcp.specs.VcpView.{seen, IsKept}
 use Rattle.vc_packets.specs.Counters.{one_more}
-use Rattle.vc_vcp.proofs.Passing.{at_link, same_there, kept_outs, kept_strays}
-use Rattle.vc_vcp.proofs.Wired.{wired-outs}
-use Rattle.vc_vcp.proofs.Placed.{same_read}
-use Rattle.vc_vcp.proofs.Showing.{fct_due, fct_dropped, told}
+use Rattle.vc_vcp.proofs.Passes.{at_link, same_there, kept_outs, kept_strays}
+use Rattle.vc_vcp.proofs.Preservation.{wired-outs}
+use Rattle.vc_vcp.proofs.ListWrites.{same_read}
+use Rattle.vc_vcp.proofs.ListChanges.{fct_due, fct_dropped, told}
 use Rattle.vc_vcp.proofs.vcp.Vcp.accept_credit.Goals as goal
 
 pub returns-then-may_credit-clause-comes : goal.returns-then-may_credit-clause-comes

@@ -5,9 +5,9 @@ use Rattle.vc_vcp.specs.Links.{Comes}
 use Rattle.vc_vcp.specs.State.{State}
 use Rattle.vc_vcp.specs.VcpView.{seen, IsKept}
 use Rattle.vc_packets.specs.Counters.{one_more}
-use Rattle.vc_vcp.proofs.Passing.{at_link, same_there, kept_in, kept_strays, wired_coming}
-use Rattle.vc_vcp.proofs.Placed.{same_read}
-use Rattle.vc_vcp.proofs.Showing.{data_due, data_dropped, told}
+use Rattle.vc_vcp.proofs.Passes.{at_link, same_there, kept_in, kept_strays, wired_coming}
+use Rattle.vc_vcp.proofs.ListWrites.{same_read}
+use Rattle.vc_vcp.proofs.ListChanges.{data_due, data_dropped, told}
 use Rattle.vc_vcp.proofs.vcp.Vcp.accept_data.Goals as goal
 
 pub returns-then-is_promised-clause-comes : goal.returns-then-is_promised-clause-comes

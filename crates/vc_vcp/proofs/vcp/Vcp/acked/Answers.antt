@@ -5,12 +5,12 @@ use Rattle.vc_vcp.specs.VcpView.{seen, link_of, IsKept, taken_of}
 use Rattle.vc_vcp.specs.Private.VcpView.{Acks, advance_told}
 use Rattle.vc_vcp.specs.State.{State, HaveOwnNames, IsOutput}
 use Rattle.vc_vcp.proofs.KeyedLemmas.{named_has}
-use Rattle.vc_vcp.proofs.Passing.{at_place}
-use Rattle.vc_vcp.proofs.Placed.{same_read, always_on_err}
-use Rattle.vc_vcp.proofs.Stepping.{with_output, kept-output, links-output, output_back}
-use Rattle.vc_vcp.proofs.Straying.{ack_strays, idle_none, idle_some}
-use Rattle.vc_vcp.proofs.Taking.{acks_ok}
-use Rattle.vc_vcp.proofs.Wired.{wired-output, all-at}
+use Rattle.vc_vcp.proofs.Passes.{at_place}
+use Rattle.vc_vcp.proofs.ListWrites.{same_read, always_on_err}
+use Rattle.vc_vcp.proofs.EndChanges.{with_output, kept-output, links-output, output_back}
+use Rattle.vc_vcp.proofs.Strays.{ack_strays, idle_none, idle_some}
+use Rattle.vc_vcp.proofs.Takes.{acks_ok}
+use Rattle.vc_vcp.proofs.Preservation.{wired-output, all-at}
 use Rattle.vc_vcp.proofs.vcp.Vcp.acked.Goals as goal
 
 pub returns-in_default-clause-arrives : goal.returns-in_default-clause-arrives

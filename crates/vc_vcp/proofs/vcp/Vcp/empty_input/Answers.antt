@@ -4,7 +4,7 @@ use Rattle.std.proofs.lemmas.Option.{slice_get_read}
 use Rattle.vc_vcp.specs.Names.{named}
 use Rattle.vc_vcp.specs.State.{HaveOwnNames, IsInput, IsPieceOf}
 use Rattle.vc_vcp.proofs.KeyedLemmas.{named_has}
-use Rattle.vc_vcp.proofs.Straying.{piece_strays, full_none, full_some}
+use Rattle.vc_vcp.proofs.Strays.{piece_strays, full_none, full_some}
 use Rattle.vc_vcp.proofs.vcp.Vcp.empty_input.Goals as goal
 
 pub returns-in_default : goal.returns-in_default

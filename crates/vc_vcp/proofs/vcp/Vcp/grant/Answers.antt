@@ -4,8 +4,8 @@ use Rattle.vc_vcp.specs.Links.{SendsFct}
 use Rattle.vc_credit.specs.Ends.{HasRoom}
 use Rattle.vc_vcp.specs.VcpView.{IsKept}
 use Rattle.vc_vcp.specs.State.{State}
-use Rattle.vc_vcp.proofs.Passing.{at_link, less_grant, grant_there, kept_in, wired_granting}
-use Rattle.vc_vcp.proofs.Showing.{grants_fct, told}
+use Rattle.vc_vcp.proofs.Passes.{at_link, less_grant, grant_there, kept_in, wired_granting}
+use Rattle.vc_vcp.proofs.ListChanges.{grants_fct, told}
 use Rattle.vc_vcp.proofs.vcp.Vcp.grant.Goals as goal
 
 pub returns-clause-grants : goal.returns-clause-grants

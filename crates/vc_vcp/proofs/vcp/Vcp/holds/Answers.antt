@@ -1,7 +1,7 @@
 use Rattle.std.proofs.Common.{rules, ◌≢◌, ◌↔◌, IsTrue, None, false, subst}
 use Rattle.vc_packets.specs.Functions.{shown_or}
 use Rattle.vc_vcp.specs.VcpView.{in_half, no_input}
-use Rattle.vc_vcp.proofs.Enabling.{holds_none}
+use Rattle.vc_vcp.proofs.Enablement.{holds_none}
 use Rattle.vc_vcp.proofs.vcp.Vcp.holds.Goals as goal
 
 pub returns-in-Some : goal.returns-in-Some

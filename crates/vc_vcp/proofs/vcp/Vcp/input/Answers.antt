@@ -3,7 +3,7 @@ use Rattle.std.specs.Option.{option_copied}
 use Rattle.std.proofs.lemmas.Option.{slice_get_read}
 use Rattle.vc_vcp.specs.Names.{named, NamesDiffer}
 use Rattle.vc_vcp.specs.State.{State, IsInput}
-use Rattle.vc_vcp.proofs.Wired.{all-at}
+use Rattle.vc_vcp.proofs.Preservation.{all-at}
 use Rattle.vc_vcp.proofs.vcp.Vcp.input.Goals as goal
 
 pub input_on-requires : goal.input_on-requires

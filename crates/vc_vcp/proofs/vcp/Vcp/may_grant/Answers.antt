@@ -2,7 +2,7 @@ use Rattle.std.proofs.Common.{◌<◌, ◌≤◌, arith, subst}
 use Rattle.std.proofs.lemmas.Bool.{le-ltb}
 use Rattle.vc_vcp.specs.State.{State, IsWired}
 use Rattle.vc_vcp.proofs.Beyond.{grant_there, in_past, no_may_grant}
-use Rattle.vc_vcp.proofs.Passing.{ins_read}
+use Rattle.vc_vcp.proofs.Passes.{ins_read}
 use Rattle.vc_vcp.proofs.vcp.Vcp.may_grant.Goals as goal
 
 pub returns-then-at-lt-LINKS-clause-can : goal.returns-then-at-lt-LINKS-clause-can

@@ -1,5 +1,5 @@
 use Rattle.std.proofs.Common.{rules, sym}
-use Rattle.vc_vcp.proofs.Enabling.{offer_iff, idle_none, offer_none}
+use Rattle.vc_vcp.proofs.Enablement.{offer_iff, idle_none, offer_none}
 use Rattle.vc_vcp.proofs.vcp.Vcp.may_offer.Goals as goal
 
 pub returns-in-Some-clause-idle : goal.returns-in-Some-clause-idle

@@ -2,10 +2,10 @@ use Rattle.std.proofs.Common.{◌<◌, ◌≤◌, ◌≢◌, ◌↔◌, IsTrue, 
 use mathlib.Core.Bool.{not}
 use Rattle.std.proofs.lemmas.Bool.{le-ltb}
 use Rattle.vc_vcp.specs.State.{State, IsWired}
-use Rattle.vc_vcp.proofs.Arriving.{pass_iff}
+use Rattle.vc_vcp.proofs.Arrivals.{pass_iff}
 use Rattle.vc_vcp.proofs.Beyond.{in_past, no_pass, no_waits}
-use Rattle.vc_vcp.proofs.Enabling.{none_iff}
-use Rattle.vc_vcp.proofs.Passing.{ins_read, receiver_at}
+use Rattle.vc_vcp.proofs.Enablement.{none_iff}
+use Rattle.vc_vcp.proofs.Passes.{ins_read, receiver_at}
 use Rattle.vc_vcp.proofs.vcp.Vcp.may_pass.Goals as goal
 
 pub returns-then-at-lt-LINKS-clause-can : goal.returns-then-at-lt-LINKS-clause-can

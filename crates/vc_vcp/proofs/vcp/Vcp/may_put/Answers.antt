@@ -2,8 +2,8 @@ use Rattle.std.proofs.Common.{◌<◌, ◌≤◌, arith}
 use Rattle.std.proofs.lemmas.Bool.{le-ltb}
 use Rattle.vc_vcp.specs.State.{State}
 use Rattle.vc_vcp.proofs.Beyond.{out_past, no_may_put, no_put}
-use Rattle.vc_vcp.proofs.Enabling.{put_iff}
-use Rattle.vc_vcp.proofs.Passing.{outs_read}
+use Rattle.vc_vcp.proofs.Enablement.{put_iff}
+use Rattle.vc_vcp.proofs.Passes.{outs_read}
 use Rattle.vc_vcp.proofs.vcp.Vcp.may_put.Goals as goal
 
 pub returns-then-at-lt-LINKS-clause-can : goal.returns-then-at-lt-LINKS-clause-can

@@ -1,5 +1,5 @@
 use Rattle.std.proofs.Common.{rules, sym}
-use Rattle.vc_vcp.proofs.Enabling.{stop_iff, not_iff, unwanted_none, stop_none}
+use Rattle.vc_vcp.proofs.Enablement.{stop_iff, not_iff, unwanted_none, stop_none}
 use Rattle.vc_vcp.proofs.vcp.Vcp.may_stop.Goals as goal
 
 pub returns-in-Some-clause-unwanted : goal.returns-in-Some-clause-unwanted

@@ -1,5 +1,5 @@
 use Rattle.std.proofs.Common.{sym, ◌∙◌}
-use Rattle.vc_vcp.proofs.Enabling.{open_iff, want_iff, both_iff, neither_iff, open_none, want_none}
+use Rattle.vc_vcp.proofs.Enablement.{open_iff, want_iff, both_iff, neither_iff, open_none, want_none}
 use Rattle.vc_vcp.proofs.vcp.Vcp.may_want.Goals as goal
 
 pub returns-then-not-wants-clause-open : goal.returns-then-not-wants-clause-open

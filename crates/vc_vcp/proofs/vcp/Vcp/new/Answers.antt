@@ -1,7 +1,7 @@
 use Rattle.std.proofs.Common.{◌≡◌, subst, sym, ◌∙◌}
 use Rattle.vc_vcp.specs.State.{IsWired}
 use Rattle.vc_vcp.specs.VcpView.{seen, ends_of}
-use Rattle.vc_vcp.proofs.Opened.{begun, begun_wired, begun_seen, begun_ends}
+use Rattle.vc_vcp.proofs.OpeningState.{begun, begun_wired, begun_seen, begun_ends}
 use Rattle.vc_vcp.proofs.vcp.Vcp.new.Goals as goal
 
 pub invariant_of-result : goal.invariant_of-result

@@ -5,8 +5,8 @@ use Rattle.vc_vcp.specs.VcpView.{seen, IsKept}
 use Rattle.vc_vcp.specs.State.{State}
 use Rattle.vc_vcp.proofs.Beyond.{out_past}
 use Rattle.vc_vcp.proofs.LeavingWhole.{none_whole, same_outs, told_can, whole_if, whole_iff}
-use Rattle.vc_vcp.proofs.Passing.{at_link, kept_outs}
-use Rattle.vc_vcp.proofs.Wired.{wired-outs}
+use Rattle.vc_vcp.proofs.Passes.{at_link, kept_outs}
+use Rattle.vc_vcp.proofs.Preservation.{wired-outs}
 use Rattle.vc_vcp.proofs.vcp.Vcp.next_out.Goals as goal
 
 pub returns-then-link-links-clause-can : goal.returns-then-link-links-clause-can

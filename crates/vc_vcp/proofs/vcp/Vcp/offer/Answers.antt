@@ -1,14 +1,14 @@
 use Rattle.std.proofs.Common.{◌≡◌, ◌<◌, refl, sym, ◌∙◌, subst, ap, length, slice_get, Some, [], OnOk, OnErr}
 use Rattle.std.proofs.lemmas.Option.{slice_get_read}
 use Rattle.vc_vcp.specs.State.{State, IsOutput}
-use Rattle.vc_vcp.proofs.Wired.{wired-output, all-at}
+use Rattle.vc_vcp.proofs.Preservation.{wired-output, all-at}
 use Rattle.vc_vcp.specs.Names.{named, NamesDiffer}
 use Rattle.vc_vcp.specs.VcpView.{seen, ends_of, carrier_of, IsKept}
 use Rattle.vc_vcp.specs.Steps.{Offers}
 use Rattle.vc_vcp.proofs.KeyedLemmas.{named_has}
-use Rattle.vc_vcp.proofs.Passing.{at_link, at_place}
-use Rattle.vc_vcp.proofs.Placed.{same_read, asked_is, asked_found, on_ok, on_err}
-use Rattle.vc_vcp.proofs.Stepping.{with_output, offers, kept-output, links-output, output_back}
+use Rattle.vc_vcp.proofs.Passes.{at_link, at_place}
+use Rattle.vc_vcp.proofs.ListWrites.{same_read, asked_is, asked_found, on_ok, on_err}
+use Rattle.vc_vcp.proofs.EndChanges.{with_output, offers, kept-output, links-output, output_back}
 use Rattle.vc_vcp.proofs.vcp.Vcp.offer.Goals as goal
 
 pub invariant_of-self : goal.invariant_of-self

@@ -6,8 +6,8 @@ use Rattle.vc_tokens.specs.Tokens.{Byte, EndMark}
 use Rattle.vc_credit.specs.Ends.{IsFront}
 use Rattle.vc_vcp.specs.VcpView.{link_of}
 use Rattle.vc_vcp.specs.State.{State, IsLinkIn, limit_of}
-use Rattle.vc_vcp.proofs.Passing.{at_link, ins_read, receiver_at, front_seen, never_empty, mark_or_byte, fct_never}
-use Rattle.vc_vcp.proofs.Wired.{all-at}
+use Rattle.vc_vcp.proofs.Passes.{at_link, ins_read, receiver_at, front_seen, never_empty, mark_or_byte, fct_never}
+use Rattle.vc_vcp.proofs.Preservation.{all-at}
 use Rattle.vc_vcp.proofs.vcp.Vcp.pass.Goals as goal
 
 pub pass_mark-requires-clause-link : goal.pass_mark-requires-clause-link

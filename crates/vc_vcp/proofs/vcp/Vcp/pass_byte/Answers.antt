@@ -6,8 +6,8 @@ use Rattle.vc_vcp.specs.VcpView.{seen, ends_of, link_of, IsKept}
 use Rattle.vc_credit.specs.Ends.{IsFront}
 use Rattle.vc_tokens.specs.Tokens.{Byte}
 use Rattle.vc_vcp.specs.State.{State, IsLinkIn, limit_of}
-use Rattle.vc_vcp.proofs.Passing.{byte_passes, byte_drops, at_link, front_at, kept_in, wired_passing}
-use Rattle.vc_vcp.proofs.Wired.{all-at}
+use Rattle.vc_vcp.proofs.Passes.{byte_passes, byte_drops, at_link, front_at, kept_in, wired_passing}
+use Rattle.vc_vcp.proofs.Preservation.{all-at}
 use Rattle.vc_vcp.proofs.vcp.Vcp.pass_byte.Goals as goal
 
 pub returns-then-not-pass_byte-clause-passes : goal.returns-then-not-pass_byte-clause-passes

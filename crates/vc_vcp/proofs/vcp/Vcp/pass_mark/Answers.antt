@@ -6,7 +6,7 @@ use Rattle.vc_vcp.specs.Links.{Passes}
 use Rattle.vc_vcp.specs.VcpView.{seen, ends_of, taken_of, link_of, carrier_of}
 use Rattle.vc_vcp.specs.Steps.{Arrives}
 use Rattle.vc_vcp.specs.State.{State, limit_of}
-use Rattle.vc_vcp.proofs.Passing.{mark_passes, front_at, wired_passing}
+use Rattle.vc_vcp.proofs.Passes.{mark_passes, front_at, wired_passing}
 use Rattle.vc_vcp.proofs.vcp.Vcp.pass_mark.Goals as goal
 
 pub pass_mark-requires : goal.pass_mark-requires

@@ -4,9 +4,9 @@ use Rattle.vc_tokens.specs.CodeTokens.{token}
 use Rattle.vc_vcp.specs.Links.{Sends}
 use Rattle.vc_vcp.specs.VcpView.{IsKept}
 use Rattle.vc_vcp.specs.State.{State}
-use Rattle.vc_vcp.proofs.Passing.{at_link, less_put, put_there, kept_outs}
-use Rattle.vc_vcp.proofs.Wired.{wired-outs}
-use Rattle.vc_vcp.proofs.Showing.{sends_token, told}
+use Rattle.vc_vcp.proofs.Passes.{at_link, less_put, put_there, kept_outs}
+use Rattle.vc_vcp.proofs.Preservation.{wired-outs}
+use Rattle.vc_vcp.proofs.ListChanges.{sends_token, told}
 use Rattle.vc_vcp.proofs.vcp.Vcp.put.Goals as goal
 
 pub returns-clause-sends : goal.returns-clause-sends

@@ -1,5 +1,5 @@
 use Rattle.std.proofs.Common.{rules, sym}
-use Rattle.vc_vcp.proofs.Enabling.{fetch_iff, ready_none, fetch_none}
+use Rattle.vc_vcp.proofs.Enablement.{fetch_iff, ready_none, fetch_none}
 use Rattle.vc_vcp.proofs.vcp.Vcp.ready.Goals as goal
 
 pub returns-in-Some-clause-ready : goal.returns-in-Some-clause-ready

@@ -1,5 +1,5 @@
 use Rattle.vc_vcp.specs.State.{State}
-use Rattle.vc_vcp.proofs.Passing.{ins_read}
+use Rattle.vc_vcp.proofs.Passes.{ins_read}
 use Rattle.vc_vcp.proofs.vcp.Vcp.receiving.Goals as goal
 
 pub returns : goal.returns

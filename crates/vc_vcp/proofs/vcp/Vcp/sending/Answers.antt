@@ -1,5 +1,5 @@
 use Rattle.vc_vcp.specs.State.{State}
-use Rattle.vc_vcp.proofs.Passing.{outs_read}
+use Rattle.vc_vcp.proofs.Passes.{outs_read}
 use Rattle.vc_vcp.proofs.vcp.Vcp.sending.Goals as goal
 
 pub returns : goal.returns

@@ -6,10 +6,10 @@ use Rattle.vc_vcp.specs.VcpView.{seen, ends_of, carrier_of, link_of, IsKept}
 use Rattle.vc_vcp.specs.Steps.{Stops}
 use Rattle.vc_vcp.specs.State.{State, IsInput}
 use Rattle.vc_vcp.proofs.KeyedLemmas.{named_has}
-use Rattle.vc_vcp.proofs.Placed.{same_read, asked_is, asked_found}
-use Rattle.vc_vcp.proofs.Passing.{at_place}
-use Rattle.vc_vcp.proofs.Stopping.{stops, kept-stop}
-use Rattle.vc_vcp.proofs.Wired.{wired-input, stopped_input, all-at}
+use Rattle.vc_vcp.proofs.ListWrites.{same_read, asked_is, asked_found}
+use Rattle.vc_vcp.proofs.Passes.{at_place}
+use Rattle.vc_vcp.proofs.Stops.{stops, kept-stop}
+use Rattle.vc_vcp.proofs.Preservation.{wired-input, stopped_input, all-at}
 use Rattle.vc_vcp.proofs.vcp.Vcp.stopch.Goals as goal
 
 pub invariant_of-self : goal.invariant_of-self

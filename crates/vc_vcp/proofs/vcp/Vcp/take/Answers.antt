@@ -3,12 +3,12 @@ use Rattle.vc_vcp.specs.Private.Bound.{IsStray, MayTake, with_inputs}
 use Rattle.vc_vcp.specs.VcpView.{ends_of, seen, carrier_of, link_of, IsKept, taken_of}
 use Rattle.vc_vcp.specs.State.{State, IsAckOf, IsInput}
 use Rattle.vc_vcp.specs.Steps.{Arrives}
-use Rattle.vc_vcp.proofs.Changing.{written, stays-written, arrives-written}
+use Rattle.vc_vcp.proofs.ArrivalChanges.{written, stays-written, arrives-written}
 use Rattle.std.specs.List.{AllByRecursion}
 use Rattle.vc_packets.specs.Counters.{one_more}
-use Rattle.vc_vcp.proofs.Passing.{kept_strays}
-use Rattle.vc_vcp.proofs.Placed.{if_ok}
-use Rattle.vc_vcp.proofs.Straying.{stray_is}
+use Rattle.vc_vcp.proofs.Passes.{kept_strays}
+use Rattle.vc_vcp.proofs.ListWrites.{if_ok}
+use Rattle.vc_vcp.proofs.Strays.{stray_is}
 use Rattle.vc_vcp.proofs.vcp.Vcp.take.Goals as goal
 
 pub invariant_of-self : goal.invariant_of-self

@@ -3,12 +3,12 @@ use Rattle.std.proofs.lemmas.Option.{slice_get_read}
 use Rattle.vc_vcp.specs.Names.{named, NamesDiffer}
 use Rattle.vc_vcp.specs.VcpView.{seen, ends_of, carrier_of, Inputs, IsKept}
 use Rattle.vc_vcp.specs.State.{State, IsInput}
-use Rattle.vc_vcp.proofs.Inputting.{inputs_ok, kept-input}
+use Rattle.vc_vcp.proofs.InputChanges.{inputs_ok, kept-input}
 use Rattle.vc_vcp.proofs.KeyedLemmas.{named_has}
-use Rattle.vc_vcp.proofs.Passing.{at_link, at_place}
-use Rattle.vc_vcp.proofs.Placed.{same_read, asked_is, asked_found, on_err}
-use Rattle.vc_vcp.proofs.Stepping.{with_input, links-input, input_back}
-use Rattle.vc_vcp.proofs.Wired.{wired-input, wired-outs, all-at}
+use Rattle.vc_vcp.proofs.Passes.{at_link, at_place}
+use Rattle.vc_vcp.proofs.ListWrites.{same_read, asked_is, asked_found, on_err}
+use Rattle.vc_vcp.proofs.EndChanges.{with_input, links-input, input_back}
+use Rattle.vc_vcp.proofs.Preservation.{wired-input, wired-outs, all-at}
 use Rattle.vc_vcp.proofs.vcp.Vcp.want.Goals as goal
 
 pub invariant_of-self : goal.invariant_of-self
