@@ -5,7 +5,7 @@ use Rattle.std.proofs.lemmas.Bool.Decides.{nat_tests}
 use Rattle.vc_machine.specs.Paths.{AtNode, AtSwitch}
 use Rattle.vc_network.specs.Plan.{Plan, IsOutOf, IsInto, switch_plan}
 use Rattle.vc_tokens.specs.Tokens.{Token, Byte, EndMark}
-use Rattle.vc_switch.specs.Able.{CanPass, CanLeave, IsFree, CanRoute, CanPut}
+use Rattle.vc_switch.specs.Able.{CanPass, CanLeave, CanRoute, CanPut}
 use Rattle.vc_switch.specs.SwitchView.{seen, IsKept, input_of}
 use Rattle.vc_switch.specs.State.{State, IsSwitch, plan_of, limit_of, source_at, output_of}
 use Rattle.vc_packets.specs.Functions.{shown_or}
@@ -135,10 +135,6 @@ may s is a can = record { links = within s is a can; can = can }
 
 pub may_by : (s : State) → IsSwitch s → (a : Act) (b : Bool) → (IsTrue b ↔ SwitchCan s a) → IsTrue b ↔ SwitchMay s a
 may_by s is a b can = (λ t. may s is a (can.0 t), λ m. can.1 m.can)
-
--- a packet can be bound where it can leave by a free output, and only there
-pub route_can : (plan : SwitchPlan) (s : Switch) (l o : ℕ) → CanLeave plan s l o → IsFree s o → CanRoute plan s l o
-route_can plan s l o can free = (_, record { body = can.body; unbound = can.unbound; group = can.leaves; may_go = tt; free = free; after = refl })
 
 pub route_leaves : (plan : SwitchPlan) (s : Switch) (l o : ℕ) → CanRoute plan s l o → CanLeave plan s l o
 route_leaves plan s l o (new, h) = record { body = h.body; unbound = h.unbound; leaves = h.group }

@@ -336,10 +336,6 @@ chain_more net rows start looked found seen (suc k) f ports d s lt is c g there 
     let e : b.0 ≡ g = let r : Some b.0 ≡ Some g = sym b.2 ∙ there in cc in
     (subst (λ (x : Found). DependsOn net (port_at x.port) (port_at f.port)) e (d.right b.0.port f.port b.3), c f is)
 
-pub chain_round : (net : Plan) (rows : List (Vec ℕ)) (start looked : ℕ) (found : List Found) (seen : List Bool) (f : Found) (ports : List Port) →
-    Searched rows start looked found seen → slice_get found 0 ≡ Some f → ChainFrom net found 0 ports start → Chain net (port_at f.port) ports (port_at f.port)
-chain_round net rows start looked found seen f ports s is c = subst (λ p. Chain net (port_at f.port) ports (port_at p)) (sym (s.begins f is)) (c f is)
-
 -- the row that is read is that of the port
 pub row_read : (rows : List (Vec ℕ)) (i p : ℕ) (v : Vec ℕ) (xs : List ℕ) → AreRows rows → p < 1024 → i ≡ p → v ≡ get_or rows i v → xs ≡ v.items → row rows p ≡ xs
 row_read rows i p v xs are small same is copy =

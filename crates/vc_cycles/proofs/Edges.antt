@@ -86,16 +86,6 @@ gains_insert xs i x is = record {
     rises : IsRising xs → (i ≤ length xs) × ((k : ℕ) → k < i → get_or xs k 0 < x) × ((k : ℕ) → i ≤ k → k < length xs → x < get_or xs k 0) → IsRising (insert xs i x)
     rises up (le, below, above) = rising_insert xs i x le below above up
 
-pub gains_same : (xs : List ℕ) (x : ℕ) → Contains xs x → Gains xs xs x
-gains_same xs x h = record { keeps = λ y c. c; has = h; only = λ y c. inl c; rising = λ up. up }
-
--- rows
-pub row_push : (rs : List (Vec ℕ)) (v : Vec ℕ) (i : ℕ) → ((k : ℕ) → row rs k ≡ []) → v.items ≡ [] → row (rs ++ v ∷ []) i ≡ []
-row_push [] v zero h e = e
-row_push [] v (suc i) h e = refl
-row_push (r ∷ rs) v zero h e = h 0
-row_push (r ∷ rs) v (suc i) h e = row_push rs v i (λ k. h (suc k)) e
-
 row_set_same : (rs : List (Vec ℕ)) (i : ℕ) (v : Vec ℕ) → i < length rs → row (set rs i v) i ≡ v.items
 row_set_same [] i v lt = absurd (omega arith)
 row_set_same (r ∷ rs) zero v lt = refl
@@ -155,9 +145,6 @@ edge_put rs i k j a b old v na nb same many is g =
     let small = number_small a i here in
     let lt : i < length rs = omega (arith, small, many) in
     edge_set rs i j a b v here (sym nb) lt (subst (λ xs. Gains xs v.items j) (sym (row_is rs i old (read_at rs i old lt is))) g)
-
-pub edge_none : (rs : List (Vec ℕ)) (a b : Port) → ((i j : ℕ) → port_number a ≡ Some i → port_number b ≡ Some j → ⊥) → GainEdge rs rs a b
-edge_none rs a b none = record { many = refl; keeps = λ i j c. c; has = λ i j p q. absurd (none i j p q); only = λ i j c. inl c; rising = λ up. up }
 
 pub on_ok : {T E : Type 0} {P Q : Type 0} (r : Result T E) → (P → Q) → OnOk r P → OnOk r Q
 on_ok (Ok x) f p = f p

@@ -11,12 +11,6 @@ use Rattle.vc_machine.proofs.Labels.{Phase, Calm, Coming, Waiting, Returning, La
 use Rattle.vc_machine.proofs.Ways.{number_here, number_other}
 use Rattle.vc_machine.proofs.Counts.{number_plus, Going, going, is_of_own, is_of_one}
 
-zip_append : {X Y : Type 0} (R : X → Y → Type 0) (xs : List X) (as' : List Y) (ys : List X) (bs : List Y) → AllZip R xs as' → AllZip R ys bs → AllZip R (xs ++ ys) (as' ++ bs)
-zip_append R [] [] ys bs z q = q
-zip_append R [] (a ∷ as') ys bs z q = absurd z
-zip_append R (x ∷ xs) [] ys bs z q = absurd z
-zip_append R (x ∷ xs) (a ∷ as') ys bs z q = (z.0, zip_append R xs as' ys bs z.1 q)
-
 abbrev AreGoing : Net → (ℕ → Phase) → (ℕ → ChanState) → (ℕ → ℕ) → Type 0
 AreGoing net ph chans n = (d : ℕ) → Carries net d → (n d ≡ 0 → ⊥) → Going (chans d) (ph d)
 

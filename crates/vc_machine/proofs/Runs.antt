@@ -80,8 +80,3 @@ pub nothing_after_stop : (net : Net) (es : List Event) (s t : State) (c : ℕ) �
 nothing_after_stop net es s t c acc i h e =
     let q = run_told net es s t acc i h in
     all_stopped (view s c) (part c q.0) (view t c) e (parts_run net es q.0 s t c q.1)
-
--- a run goes on: the step of a loop over a list of events
-pub run_more : (net : Net) (es : List Event) (s t u : State) (e : Event) → Run net s es t → Step net t e u → Run net s (es ++ e ∷ []) u
-run_more net [] s t u e h k = (u, subst (λ z. Step net z e u) h k, refl)
-run_more net (a ∷ es) s t u e h k = (h.0, h.1, run_more net es h.0 t u e h.2 k)

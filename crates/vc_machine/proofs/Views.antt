@@ -2,7 +2,7 @@
 use Rattle.std.proofs.Common.{◌≡◌, ℕ, suc, ◌≤◌, ◌⊎◌, inl, inr, Bool, true, false, List, [], ◌∷◌, ◌++◌, length, refl, sym, ap, subst, ◌∙◌, arith, Option, Some, None, slice_get, append_assoc, append-nil, length-append}
 use Rattle.vc_packets.specs.declared.packet.Packet.{Packet}
 use Rattle.vc_machine.specs.Paths.{Carries, Channel, Net}
-use Rattle.vc_machine.specs.Rendezvous.{View, Comm, Out, In, Fin, Stp, Does, DoesAll, IsPrefixOf}
+use Rattle.vc_machine.specs.Rendezvous.{View, Comm, Out, In, Fin, Stp, Does, IsPrefixOf}
 use Rattle.vc_machine.specs.Machine.{State, ChanState, store, accept, advance, view_of, view, Shows, MayTell, Event, Offer, Want, Choose, Stop, Send, Receive, Enter, Route, Leave, stores, holds, advances, Reaches, taken, stray, fills, lost, Fetches, Wants, fetches, waits, IsOpen, Step}
 use Rattle.vc_packets.specs.Functions.{put}
 use Rattle.vc_machine.proofs.Basics.{put-same, put-other, every_put}
@@ -46,11 +46,6 @@ after_stop v (Out m) u s h = (ap (λ k. k.taken) h.1, ap (λ k. k.stopped) h.1 �
 after_stop v (In m) u s h = let z = h.1 in absurd (cc)
 after_stop v Fin u s h = (ap (λ k. k.taken) h.1, ap (λ k. k.stopped) h.1 ∙ s)
 after_stop v Stp u s h = (ap (λ k. k.taken) h, ap (λ k. k.stopped) h)
-
--- the rendezvous machine's own headline
-pub all_keep : (v : View) (ks : List Comm) (u : View) → Keeps v → DoesAll v ks u → Keeps u
-all_keep v [] u k h = subst Keeps (sym h) k
-all_keep v (k ∷ ks) u q h = all_keep h.0 ks u (keeps v k h.0 q h.1) h.2
 
 -- what may be told
 abbrev pub May : Type 1

@@ -1,5 +1,5 @@
 -- The threads' own runs, merged, are a run of the network.
-use Rattle.std.proofs.Common.{◌≡◌, ℕ, ◌+◌, ◌<◌, ◌≤◌, List, [], ◌∷◌, ◌++◌, refl, sym, ap, ap₂, subst, arith, if◌then◌else◌, ne_eqb}
+use Rattle.std.proofs.Common.{◌≡◌, ℕ, ◌+◌, ◌<◌, ◌≤◌, [], ◌∷◌, refl, sym, ap, subst, arith, if◌then◌else◌, ne_eqb}
 use Rattle.vc_network.specs.Actors.{Label, taken_off, put_on}
 use Rattle.vc_network.specs.Private.Actors.{KeepsTo}
 use Rattle.vc_network.specs.Actors.Label.{Own, Takes, Puts}
@@ -7,7 +7,7 @@ use Rattle.vc_network.proofs.ThreadRuns.{threads_run}
 use Rattle.vc_tokens.specs.Tokens.{Token}
 use Rattle.vc_switch.specs.Waiting.{Waiting}
 use Rattle.vc_network.specs.Plan.{Plan, ways}
-use Rattle.vc_network.specs.LocalRun.{Stamped, Turn, LocalRun, plain, all_taken, all_put}
+use Rattle.vc_network.specs.LocalRun.{Stamped, plain}
 use Rattle.vc_network.specs.Processes.{StepRelation}
 use Rattle.vc_network.specs.Network.{Act, Proc, Take, Put, Route, Fct, Pass, Node, Actor, IsNode, IsSwitch, NodeStep, SwitchStep, Local, first, begins, actor_at, HappenAll}
 use Rattle.vc_network.specs.Threads.{source, sink, ended, ThreadsKeepHeadline}
@@ -79,37 +79,7 @@ node_on plan Does n a b (Puts (Route i o) w p) h = absurd h
 node_on plan Does n a b (Puts (Fct l) w p) h = h.0.0
 node_on plan Does n a b (Puts (Pass l) w p) h = absurd h
 
-switch_on : (plan : Plan) (waiting : Waiting) (k : ℕ) (a b : Switch) (label : Label Act Token) → SwitchStep plan waiting k a label b → IsOnPlan plan label
-switch_on plan waiting k a b (Own act) h = tt
-switch_on plan waiting k a b (Takes (Proc move) w p) h = absurd h
-switch_on plan waiting k a b (Takes (Take l w0) w p) h = h.0.0
-switch_on plan waiting k a b (Takes (Put l) w p) h = absurd h
-switch_on plan waiting k a b (Takes (Route i o) w p) h = absurd h
-switch_on plan waiting k a b (Takes (Fct l) w p) h = absurd h
-switch_on plan waiting k a b (Takes (Pass l) w p) h = absurd h
-switch_on plan waiting k a b (Puts (Proc move) w p) h = absurd h
-switch_on plan waiting k a b (Puts (Take l w0) w p) h = absurd h
-switch_on plan waiting k a b (Puts (Put l) w p) h = h.0.0
-switch_on plan waiting k a b (Puts (Route i o) w p) h = absurd h
-switch_on plan waiting k a b (Puts (Fct l) w p) h = h.0.0
-switch_on plan waiting k a b (Puts (Pass l) w p) h = absurd h
-
-pub on_plan : {P : Type 0} (plan : Plan) (waiting : Waiting) (Does : StepRelation P) (actor : ℕ) (old : Actor P) (label : Label Act Token) (new : Actor P) → Local plan waiting Does actor old label new → IsOnPlan plan label
-on_plan plan waiting Does actor (IsNode a) label (IsNode b) h = node_on plan Does actor a b label h.1
-on_plan plan waiting Does actor (IsSwitch a) label (IsSwitch b) h = switch_on plan waiting h.0 a b label h.2
-on_plan plan waiting Does actor (IsNode a) label (IsSwitch b) h = absurd h
-on_plan plan waiting Does actor (IsSwitch a) label (IsNode b) h = absurd h
-
 past : (plan : Plan) (w : ℕ) (l : Label Act (Stamped Token)) → ways plan ≤ w → IsOnPlan plan (plain l) → (taken_off w l ≡ []) × (put_on w l ≡ [])
 past plan w (Own act) h k = (refl, refl)
 past plan w (Takes act v s) h k = (ap (λ b. if b then s ∷ [] else []) (ne_eqb v w (λ e. omega arith)), refl)
 past plan w (Puts act v s) h k = (refl, ap (λ b. if b then s ∷ [] else []) (ne_eqb v w (λ e. omega arith)))
-
--- past the plan's ways nothing passes: so `LocalRuns.ways` is to be shown below `ways plan` only
-pub past_ways : {P : Type 0} (plan : Plan) (waiting : Waiting) (Does : StepRelation P) (actor clock w : ℕ) (old new : Actor P) (ts : List (Turn Act Token)) → ways plan ≤ w → LocalRun (Local plan waiting Does) actor clock old ts new →
-    (all_taken w ts ≡ []) × (all_put w ts ≡ [])
-past_ways plan waiting Does actor clock w old new [] h r = (refl, refl)
-past_ways plan waiting Does actor clock w old new (t ∷ ts) h r =
-    let one = past plan w t.it h (on_plan plan waiting Does actor old (plain t.it) r.0 r.1) in
-    let rest = past_ways plan waiting Does actor t.at w r.0 new ts h r.4 in
-    (ap₂ (λ xs ys. xs ++ ys) one.0 rest.0, ap₂ (λ xs ys. xs ++ ys) one.1 rest.1)

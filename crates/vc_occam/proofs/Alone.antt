@@ -55,11 +55,6 @@ met_before inside xs ys m h =
     ap (λ zs. joined inside zs zs) (ap (λ zs. zs ++ xs) h.input ∙ ap (λ zs. move.Want h.receiver h.chan ∷ zs) h.output)
     ∙ input_first inside h.sender h.receiver h.chan h.within ∙ ap (λ x. x ∷ []) (sym h.is)
 
--- of either order there may be none
-pub met_of_two : (o : Option Move) (inside : Set) (all xs ys : List Move) → all ≡ xs ++ ys → IfSome o (MeetAlone inside xs ys) → IfSome o (λ m. joined inside all all ≡ m ∷ [])
-met_of_two None inside all xs ys h q = tt
-met_of_two (Some m) inside all xs ys h q = ap (λ zs. joined inside zs zs) h ∙ met_after inside xs ys m q
-
 pub met_of_turned : (o : Option Move) (inside : Set) (all xs ys : List Move) → all ≡ ys ++ xs → IfSome o (MeetAlone inside xs ys) → IfSome o (λ m. joined inside all all ≡ m ∷ [])
 met_of_turned None inside all xs ys h q = tt
 met_of_turned (Some m) inside all xs ys h q = ap (λ zs. joined inside zs zs) h ∙ met_before inside xs ys m q

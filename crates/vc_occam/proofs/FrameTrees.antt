@@ -51,11 +51,6 @@ one_made w start next later n all ns left x xs ys h e g f (b, c) =
           ∙ ap (λ y. xs ++ y ∷ made_from w (next + w.sites n) left) g ∙ ap (λ us. xs ++ made_from w next us) (sym h) ∙ c,
     )
 
--- the first that is left has sites among theirs
-pub one_fits : {N X : Type 0} (w : Way N X) (start next limit : ℕ) (n : N) (all ns left : List N) (xs : List X) → ns ≡ n ∷ left → IsMade w start next all ns xs → start + w.sum all ≤ limit → next + w.sites n ≤ limit
-one_fits w start next limit n all ns left xs h m l =
-    let e : next + (w.sites n + w.sum left) ≡ start + w.sum all = ap (λ k. next + k) (sym (ap w.sum h ∙ w.more n left)) ∙ m.0 in omega arith
-
 -- none is left
 pub all_made : {N P X : Type 0} (w : Way N X) (num : P → N) (start next k : ℕ) (ps qs : List P) (xs : List X) → ps ≡ qs → length ps ≤ k → IsMade w start next (map num ps) (map num (drop k ps)) xs →
     (next ≡ start + w.sum (map num qs)) × (xs ≡ made_from w start (map num qs))

@@ -20,14 +20,6 @@ prefix_or (prefix_none {l = []}) = inr refl
 prefix_or (prefix_none {l = k ∷ l}) = inl strict_none
 prefix_or (prefix_more {k = k} h) = elim (prefix_or h) [ inl g ↦ inl (strict_more g) | inr e ↦ inr (ap (λ z. k ∷ z) e) ]
 
-pub prefix_of : {t l : List Comm} → StrictPrefix t l → Prefix t l
-prefix_of strict_none = prefix_none
-prefix_of (strict_more h) = prefix_more (prefix_of h)
-
-pub prefix_self : (l : List Comm) → Prefix l l
-prefix_self [] = prefix_none
-prefix_self (k ∷ l) = prefix_more (prefix_self l)
-
 -- a front of two lists joined is one of the first, or goes into the second
 split_prefix : (t : List Comm) {w u : List Comm} → StrictPrefix w (t ++ u) → StrictPrefix w t ⊎ ((v : List Comm) × (w ≡ t ++ v) × StrictPrefix v u)
 split_prefix [] {w} h = inr (w, refl, h)

@@ -89,9 +89,6 @@ sides {c} (insertion_later {a = a} h) (from_right {x = x} m) =
 too_many : {c : ℕ} {a l m : List Comm} (f : Store) → Balances c l (Ended f) → Insertion c a l m → suc (fins c l) ≤ outs c a → ⊥
 too_many f p h n = let w = insertion_within h in omega arith
 
-too_early : {c : ℕ} {m : List Comm} (k : Comm) → out_of c k ≡ 0 → {a : List Comm} → Insertion c a (k ∷ []) m → suc (fins c (k ∷ [])) ≤ outs c a → ⊥
-too_early k o h n = let w = insertion_within h in omega arith
-
 only_its_own : (c d : ℕ) (x : Datum) → suc 0 ≤ out_of c (Out d x) + 0 → d ≡ c
 only_its_own c d x h = elim (cases_eq d c) [
   | inl e ↦ e

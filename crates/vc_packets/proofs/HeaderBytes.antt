@@ -1,5 +1,5 @@
 -- Headers as bytes.
-use Rattle.std.proofs.Common.{◌≡◌, ℕ, ◌+◌, ◌*◌, ◌/◌, ◌%◌, ◌^◌, ◌<◌, List, [], ◌∷◌, ◌++◌, length, take, get_or, refl, ap, ◌∙◌, arith}
+use Rattle.std.proofs.Common.{◌≡◌, ℕ, ◌+◌, ◌/◌, ◌%◌, ◌^◌, ◌<◌, List, [], ◌∷◌, ◌++◌, length, take, get_or, refl, ap, ◌∙◌, arith}
 use Rattle.std.specs.Int.{w16, to_be_bytes}
 use Rattle.std.proofs.lemmas.List.{take_more}
 use Rattle.vc_packets.specs.Headers.{spelled}
@@ -7,10 +7,6 @@ use Rattle.vc_packets.specs.Headers.{spelled}
 pub spelled-append : (hs more : List ℕ) → spelled (hs ++ more) ≡ spelled hs ++ spelled more
 spelled-append [] more = refl
 spelled-append (h ∷ hs) more = ap (λ bs. h / 256 ∷ h % 256 ∷ bs) (spelled-append hs more)
-
-pub length-spelled : (hs : List ℕ) → length (spelled hs) ≡ 2 * length hs
-length-spelled [] = refl
-length-spelled (h ∷ hs) = omega (arith, length-spelled hs)
 
 byte_pair : (h : ℕ) → h < 65536 → h / 256 ∷ h % 256 ∷ [] ≡ to_be_bytes w16 h
 byte_pair h small = let high : h / 256 ≡ h / 256 ^ 1 % 256 = omega arith in λ i. high i ∷ h % 256 ∷ []

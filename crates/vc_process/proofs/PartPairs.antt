@@ -1,5 +1,5 @@
 -- Two parts of a PAR share something exactly where the list of their uses has a clash.
-use Rattle.std.proofs.Common.{◌≡◌, ℕ, ◌<◌, ◌≤◌, Bool, true, false, ◌||◌, ◌&&◌, refl, sym, ◌∙◌, ap, subst, eqb, List, [], ◌∷◌, ◌++◌, map, suc, arith, not, inl, inr, Option, Some, None, Err}
+use Rattle.std.proofs.Common.{◌≡◌, ℕ, ◌<◌, Bool, true, false, ◌||◌, ◌&&◌, refl, sym, ◌∙◌, ap, subst, eqb, List, [], ◌∷◌, ◌++◌, map, suc, arith, not, inl, inr, Option, Some, None, Err}
 use Rattle.std.proofs.lemmas.Bool.Decides.{nat_tests}
 use Rattle.std.specs.List.{Contains, list_any}
 use Rattle.std.specs.List.Sorted.{IsPermutation}
@@ -102,13 +102,6 @@ to_part k [] u c = absurd (none u c)
 to_part k (w ∷ us) u c = elim (front_or w us u c) [
   | inl e ↦ subst (λ z. Contains (map (by_part k) (w ∷ us)) (by_part k z)) e (at_front (by_part k w) (map (by_part k) us))
   | inr m ↦ behind (by_part k w) (map (by_part k) us) (by_part k u) (to_part k us u m)
-]
-
-later_place : (k : ℕ) (ps : Procs) (x : PartUsage) → Contains (part_usages k ps) x → k ≤ x.part
-later_place k no_parts x c = absurd (none x c)
-later_place k (part p ps) x c = elim (Contains-append_cases (map (by_part k) (usages p)) (part_usages (suc k) ps) x c) [
-  | inl l ↦ let e : x.part ≡ k = ap (λ (z : PartUsage). z.part) (from_part k (usages p) x l).is in omega arith
-  | inr r ↦ let e = later_place (suc k) ps x r in omega arith
 ]
 
 and_or : (a b c d : Bool) → a ≡ true → b ≡ true → ((a && b) || (c && d)) ≡ true

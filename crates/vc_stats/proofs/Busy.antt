@@ -1,5 +1,5 @@
 -- How long something is busy.
-use Rattle.std.proofs.Common.{◌≡◌, ℕ, zero, suc, ◌+◌, ◌-◌, ◌≤◌, ◌<◌, Bool, true, false, cond, List, [], ◌∷◌, ◌++◌, length, length-append, map, count_by, refl, sym, ap, ◌∙◌, subst, arith}
+use Rattle.std.proofs.Common.{◌≡◌, ℕ, suc, ◌+◌, ◌-◌, ◌≤◌, ◌<◌, Bool, true, false, cond, List, [], ◌∷◌, ◌++◌, length, length-append, map, count_by, refl, sym, ap, ◌∙◌, subst, arith}
 use Rattle.std.proofs.lemmas.List.Sums.{count_by-le-length, sum_by-append}
 use Rattle.std.specs.List.{range_with_len}
 use Rattle.vc_stats.specs.Times.{IsTimeOf, IsWithin, busy_of, is_busy, time_at}
@@ -54,18 +54,6 @@ turns u xs x w time is = record {
   now = turned_now (u w) time (length xs);
   within = subst (λ n. IsWithin n (turned (u w) (length xs) time)) (sym (longer xs w)) (turned_within (u w) time (length xs));
 }
-
--- to turn again changes nothing
-pub turned_again : (b : Bool) (n : ℕ) (time : BusyTime) → turned b n (turned b n time) ≡ turned b n time
-turned_again true n time = let e : n - (n - (n - busy_of time n)) ≡ n - busy_of time n = omega arith in ap Busy e
-turned_again false n time = refl
-
--- one idle channel more
-pub idle_more : (times : List BusyTime) (n : ℕ) → ((c : ℕ) → time_at times c ≡ Idle 0) → (c : ℕ) → time_at (times ++ Idle 0 ∷ []) c ≡ Idle 0
-idle_more [] n each zero = refl
-idle_more [] n each (suc c) = refl
-idle_more (t ∷ ts) n each zero = each 0
-idle_more (t ∷ ts) n each (suc c) = idle_more ts n (λ k. each (suc k)) c
 
 -- a channel that never was busy
 pub idle_of : {X : Type 0} (u : X → Bool) (x : X) (time : BusyTime) → time ≡ Idle 0 → u x ≡ false → IsTimeOf u [] x time
