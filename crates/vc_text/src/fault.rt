@@ -23,7 +23,7 @@ pub enum RunFault {
     #[error("the text is no network: {0}")]
     Text(ReadRefused),
     /// The plan is refused.
-    #[error("the plan is refused")]
+    #[error(transparent)]
     Plan(Refusal),
     /// The threads gave no report.
     #[error("the threads gave no report: {0}")]
