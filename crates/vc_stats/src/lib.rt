@@ -20,14 +20,14 @@ mod rows;
 mod sections;
 mod state_figures;
 mod stats;
-mod stepping;
+mod step_run;
 mod table;
 mod tally;
 mod text;
-mod threading;
+mod thread_run;
 mod traffic_json;
 mod unfinished;
 
 pub use form::Form;
-pub use stepping::{json_step, stats_step};
-pub use threading::{json_net, stats_net};
+pub use step_run::{json_step, stats_step};
+pub use thread_run::{json_net, stats_net};

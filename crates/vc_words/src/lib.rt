@@ -6,16 +6,16 @@
 #![tactic(auto)]
 
 mod account;
+mod arguments;
 mod definition;
 mod laws;
 mod line;
 mod line_fault;
-mod reading;
 mod words;
 
 pub use account::Account;
+pub use arguments::command;
 pub use laws::lines_are_read;
 pub use line::Line;
 pub use line_fault::LineFault;
-pub use reading::command;
 pub use words::{run_words, tell_memory, tell_no_text};

@@ -10,9 +10,9 @@ ghost use Rattle.vc_words.specs.Program.{ChecksNetwork, DrawsNetwork, ExplainsNe
 ghost use Rattle.vc_words.specs.Status.{status_of_acceptance as status_for_acceptance, status_of_check as status_for_check, status_of_text as status_for_text, status_of_fault, status_of_freedom as status_for_freedom, status_of_end, status_of_replay as status_for_replay};
 
 use crate::account::Account;
+use crate::arguments::{command, events_of};
 use crate::line::Line;
 use crate::line_fault::LineFault;
-use crate::reading::{command, events_of};
 use std::alloc::Global;
 use std::fs::File;
 use std::io::{Read, Write};

@@ -1,8 +1,0 @@
-use Rattle.std.proofs.Common.{take}
-use Rattle.vc_trace.specs.EventText.{events_text}
-use Rattle.vc_trace.specs.Private.Pieces.{Passes}
-use Rattle.vc_trace.proofs.writing.put_steps.Given as goal
-
-abbrev pub invariant-loop-event : goal.invariant-loop-event
-invariant-loop-event g l =
-    Passes (g.W.Write.contents l.fn.writer) l.fn.piece.items (g.W.Write.contents l.writer) l.piece.items (events_text l.plan (take l.event-index l.steps))
