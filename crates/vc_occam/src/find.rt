@@ -254,8 +254,8 @@ fn place_by_length(tasks: &[Task<Frame>], site: u16) -> usize {
     quotient(site.saturating_sub(first), length)
 }
 
-/// How often a number holds a length; 0 where the length is 0. A processor divides in some 26 cycles, and in 9 it reads an inverse and
-/// multiplies: so a PAR of 240 parts runs in a twentieth less time.
+/// How often a number holds a length; 0 where the length is 0. What is read at that place waits for it, and a division takes longer than
+/// a multiplication (docs/lab).
 fn quotient(number: u16, length: u16) -> usize {
     match INVERSES.get(usize::from(length)) {
         Some(inverse) => ((u64::from(number) * u64::from(*inverse)) >> 31) as usize,
