@@ -62,13 +62,19 @@ impl Way {
         self.queue.back().copied()
     }
 
-    /// The front token is taken off.
+    /// The front token is taken off. One that stands alone is taken from the end, so that the ring's head stays where it is: where tokens
+    /// come one by one none wraps around, and no branch on that is foreseen wrong (docs/lab).
     #[inline(always)]
     pub(crate) fn take_front(&mut self) -> Token
         requires { self.old ≢ [] }
         ensures { self.old ≡ token result ∷ self.new }
     {
-        match self.queue.pop_front() {
+        let front = if self.queue.len() == 1 {
+            self.queue.pop_back()
+        } else {
+            self.queue.pop_front()
+        };
+        match front {
             Some(token) => token,
             None => unreachable!(),
         }
