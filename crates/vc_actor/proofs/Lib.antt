@@ -17,3 +17,4 @@ pub mod Turns
 pub mod MoveLists
 pub mod Removal
 pub mod StepsInARow
+pub mod Resumption

@@ -559,35 +559,14 @@ fn go_on(process: &mut Running, taken: Taken) -> bool
 {
     match taken {
         Taken::Complete { chan, message } => {
-            receive(process, chan, message);
+            process.receive(chan, message);
             true
         }
         Taken::Finished { chan } => {
-            finish(process, chan);
+            process.finish(chan);
             true
         }
         _ => false,
-    }
-}
-
-// The input on a channel, if there is one, has its message.
-fn receive(process: &mut Running, chan: u16, message: Bytes)
-    ensures { IsAwaited (process_of process.old) (Some (Complete chan message)) →
-        GoesOn does (process_of process.old) (Some (Complete chan message))
-        (process_of process.new) }
-{
-    if let Some(site) = process.input_on(chan) {
-        process.resume(site, Some(message));
-    }
-}
-
-// The output on a channel, if there is one, is finished.
-fn finish(process: &mut Running, chan: u16)
-    ensures { IsAwaited (process_of process.old) (Some (Finished chan)) →
-        GoesOn does (process_of process.old) (Some (Finished chan)) (process_of process.new) }
-{
-    if let Some(site) = process.output_on(chan) {
-        process.resume(site, None);
     }
 }
 

@@ -66,3 +66,4 @@ pub mod ProcessStep
 pub mod Sent
 pub mod ValueKinds
 pub mod Alone
+pub mod NotedWaits

@@ -135,7 +135,7 @@ step_waits (in_left {i = i} {d = d} {m = m} {r = r} {r' = r'} {q = q} {mine = mi
 step_waits (in_right {i = i} {d = d} {m = m} {r = r} {q = q} {q' = q'} {mine = mine} st) =
     subst (Changed i d m (waiting r ++ waiting q)) (sym (beside_waits mine r q')) (changed_right i d m (waiting q) (waiting q') (waiting r) (step_waits st))
 
-added : {x : Waiting} {old new : List Waiting} → Inserted x old new → IsAdded x old new
+pub added : {x : Waiting} {old new : List Waiting} → Inserted x old new → IsAdded x old new
 added {x} {old} {new} h w =
     (λ k. inserted_or h w k, λ k. elim k [ inl e ↦ subst (λ z. Contains new z) (sym e) (is_inserted h) | inr o ↦ inserted_keeps h w o ])
 

@@ -7,4 +7,5 @@ pub mod Receivers
 pub mod SiteSteps
 pub mod Sites
 pub mod StepsInARow
+pub mod Waiters
 pub mod Wholes

@@ -1,5 +1,5 @@
 //! What a channel answers to a move.
-ghost use Rattle.std.specs.Prelude.{◌≡◌};
+ghost use Rattle.std.specs.Prelude.{◌≡◌, not, is_some};
 ghost use Rattle.vc_occam.specs.States.{came};
 
 use crate::variables::number_message;
@@ -20,6 +20,13 @@ pub enum Answer {
 }
 
 impl Answer {
+    /// Whether no message came.
+    pub(crate) fn has_none(&self) -> bool
+        ensures { result ≡ not (is_some (came self.now)) }
+    {
+        matches!(self, Answer::Nothing | Answer::Waits)
+    }
+
     /// The message that came, if one came.
     pub(crate) fn message(self, alloc: Global) -> Option<Bytes>
         ensures { result ≡ came self }

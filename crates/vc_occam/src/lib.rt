@@ -6,8 +6,8 @@
 //!
 //! The layer above knows of a [`Running`] that [`Running::actions`] are the first moves of what remains, which
 //! [`Running::list_actions`] puts in a list that the caller keeps, [`Running::lists`] is true exactly of them, and
-//! [`Running::act`] and [`Running::resume`] each make exactly one step, whose communications, followed by any trace of what
-//! remains, are a trace of what remained before (`specs/States`). [`Running::only_step`] names the only move where that is known
+//! [`Running::act`], [`Running::resume`], [`Running::finish`] and [`Running::receive`] each make exactly one step, whose
+//! communications, followed by any trace of what remains, are a trace of what remained before (`specs/States`). [`Running::only_step`] names the only move where that is known
 //! to be a step without a communication, [`Running::act_quietly`] makes one, and [`Running::make_steps`] makes many in a row;
 //! [`Running::first_from`] finds the first move at a site from one on, without a list.
 //!
@@ -26,7 +26,7 @@
 //! first, and then the output begins and is finished at once; the same comes of it as in the other order (`proofs/TakenFirst`).
 //! A part of a PAR keeps what it came to (`Task`), and so does the whole: where that is nothing, or one step without a communication,
 //! no moves are looked for. The parts of a PAR all go on, and since sites are in preorder the one that has a site is found by
-//! halving. Who waits on a channel is looked for first at the site that last began on it (`hints.rt`). A number is worked out at its
+//! halving. The sites that wait are noted by their channels (`waiters.rt`). A number is worked out at its
 //! assignment, and bytes, which need memory, before the site is gone to. The invariant of a [`Running`] is that its frames are ones
 //! that can be and what is kept of them is true, that the variables that its process changes are there, that its sites are in
 //! preorder, and that parts side by side have no site in common and use channels and variables lawfully.
@@ -42,7 +42,6 @@ mod frame_moves;
 mod frame_tree;
 mod go;
 mod guards;
-mod hints;
 mod inner_channels;
 mod laws;
 mod meetings;
@@ -53,6 +52,7 @@ mod running;
 mod site_step;
 mod steps;
 mod variables;
+mod waiters;
 mod waits;
 
 pub use answer::Answer;

@@ -11,14 +11,14 @@ ghost use Rattle.vc_occam.specs.MoveSites.{site_of};
 ghost use Rattle.vc_occam.specs.Private.OneProof.{InPreorder-prop, OwnSites-prop, UsesLawfully-prop};
 ghost use Rattle.vc_occam.specs.Private.Sites.{InPreorder};
 ghost use Rattle.vc_occam.specs.Sites.{OwnSites};
-ghost use Rattle.vc_occam.specs.States.{IsQuiet, came, carried, output_at};
+ghost use Rattle.vc_occam.specs.States.{IsQuiet, came, carried, output_at, waiting};
+ghost use Rattle.vc_occam.specs.Private.Waiters.{AllWait, wait_of as its_wait};
 ghost use Rattle.vc_process.specs.Terms.{store};
 
 use crate::answer::Answer;
 use crate::blocked::Blocked;
 use crate::frame::{Frame, Task};
 use crate::frame_tree::task_of;
-use crate::hints::Hints;
 use crate::inner_channels::InnerChannels;
 use crate::meetings::{clear, is_outside, join, partner};
 use crate::moves::Move;
@@ -26,6 +26,7 @@ use crate::outcome::Outcome;
 use crate::site_step::{Choose, Offer, Quiet, Resume, StopChannel, Want, WantNumber, WholeOutput};
 use crate::steps::Steps;
 use crate::variables::empty_variables;
+use crate::waiters::Waiters;
 use crate::waits::Waits;
 use sqlite_items::Items;
 use std::alloc::Global;
@@ -38,12 +39,13 @@ pub struct Running {
     task: Task<Frame>,
     vars: Vec<Datum>,
     inside: InnerChannels,
-    hints: Hints,
+    waiters: Waiters,
     ghost has_variables: { HasVariables (whole task) (length vars.items) },
     ghost in_preorder: { InPreorder (whole task) } by { InPreorder-prop (whole task) },
     ghost own_sites: { OwnSites (remains task) } by { OwnSites-prop (remains task) },
     ghost uses_lawfully: { UsesLawfully (remains task) } by { UsesLawfully-prop (remains task) },
     ghost sound: { (shown task).sound ≡ true },
+    ghost waiting: { AllWait waiters (waiting (remains task)) },
 }
 
 impl Drop for Running {
@@ -54,7 +56,7 @@ impl Drop for Running {
             task: _,
             vars: _,
             inside: _,
-            hints: _,
+            waiters: _,
         } = self;
     }
 }
@@ -165,6 +167,18 @@ fn meet(
     task.go(&mut WholeOutput { site: sender, chan }, vars);
 }
 
+/// What a site waits for that makes a move, with the site, if it waits: an output for its end, and an input or guard where no message came.
+fn wait_of(made: &Move, has_none: bool) -> Option<(Waits, u16)>
+    ensures { result ≡ its_wait made.now has_none }
+{
+    match *made {
+        Move::Offer { site, chan } => Some((Waits::Output { chan }, site)),
+        Move::Want { site, chan } if has_none => Some((Waits::Input { chan }, site)),
+        Move::Choose { site, chan, .. } if has_none => Some((Waits::Input { chan }, site)),
+        _ => None,
+    }
+}
+
 impl Running {
     ghost use Rattle.std.specs.Prelude.{◌≡◌, ◌≤◌, ◌-◌, ◌↔◌, ◌∷◌, [], IsTrue, IfOk, IfSome, OnOk, OnErr, MatchOption, Some, None, true, false, ℕ};
     ghost use Rattle.std.specs.List.{Contains};
@@ -173,6 +187,7 @@ impl Running {
     ghost use Rattle.vc_occam.specs.Private.Frames.{assigned_at, waits_at};
     ghost use Rattle.vc_occam.specs.MoveSites.{BeginsToWait, from_site, site_of, without};
     ghost use Rattle.vc_occam.specs.Private.MoveSites.{CanMeet};
+    ghost use Rattle.vc_occam.specs.Private.Waiters.{FitsWait, step_of};
     ghost use Rattle.vc_occam.specs.declared.moves.Move.TheVariants as Move;
     ghost use Rattle.vc_process.specs.Messages.{number_bytes};
     ghost use Rattle.vc_process.specs.Terms.{store};
@@ -185,7 +200,7 @@ impl Running {
     ghost use Rattle.vc_occam.specs.Runnings.{inner_channels, moves, state};
     ghost use Rattle.vc_process.specs.Usage.{among};
     ghost use Rattle.vc_occam.specs.States.{Acts, FitsMove, IsAwaited, IsQuiet, Resumes, doing, sent_by, waiting, output, input};
-    ghost use Rattle.vc_process.specs.ProcessStep.{Rests};
+    ghost use Rattle.vc_process.specs.ProcessStep.{Finishes, Receives, Rests};
 
     /// A process about to begin, its variables being 0 or without bytes. `inside` are the channels inside its node. At most 65,536
     /// processes are written in it, since a site's number has 16 bits.
@@ -205,12 +220,13 @@ impl Running {
         let vars = empty_variables(alloc, kinds)?;
         let inside = InnerChannels::new(alloc, inside)?;
         let task = task_of(alloc, process, &mut 0)?;
+        let waiters = Waiters::new();
         Ok(Running {
             alloc,
             task,
             vars,
             inside,
-            hints: Hints::new(),
+            waiters,
         })
     }
 
@@ -408,8 +424,9 @@ impl Running {
             (doing made.now (sent_by (state self.old) made.now) answer) (state self.new) }
         ensures inside { inner_channels self.new ≡ inner_channels self.old }
     {
+        let has_none = answer.has_none();
         go_alone(self.alloc, &mut self.task, &mut self.vars, made, answer);
-        self.hints.note(made);
+        self.waiters.note(wait_of(made, has_none));
     }
 
     /// Makes a step without a communication. Where it is without memory nothing has changed.
@@ -478,21 +495,67 @@ impl Running {
         ensures resumed { Resumes (state self.old) site message (state self.new) }
         ensures inside { inner_channels self.new ≡ inner_channels self.old }
     {
+        // on which channel it waited is not known here
+        self.waiters = Waiters::new();
         self.task.go(&mut Resume { site, message }, &mut self.vars);
     }
 
-    /// A site that waits for this, if one does; it is looked for first at the hint.
-    fn waits_on(&self, hint: u16, wanted: Waits) -> Option<u16>
+    /// The output that waits on a channel is finished, if there is one; answers whether there was. Else nothing changes.
+    #[tactic(auto, unfolding(crate::specs::Runnings::state, crate::specs::Runnings::inner_channels))]
+    pub fn finish(&mut self, chan: u16) -> bool
+        ensures finished { result ≡ true → Acts (state self.old) (Finishes chan) (state self.new) }
+        ensures none { result ≡ false →
+            (i : ℕ) → Contains (waiting (state self.old).rest) (output i chan) → ⊥ }
+        ensures unchanged { result ≡ false → self.new ≡ self.old }
+        ensures inside { inner_channels self.new ≡ inner_channels self.old }
+    {
+        self.go_on(Waits::Output { chan }, None)
+    }
+
+    /// The input that waits on a channel has its message, if there is one; answers whether there was. Else nothing changes.
+    #[tactic(auto, unfolding(crate::specs::Runnings::state, crate::specs::Runnings::inner_channels))]
+    pub fn receive(&mut self, chan: u16, message: Bytes) -> bool
+        ensures received { result ≡ true →
+            Acts (state self.old) (Receives chan message) (state self.new) }
+        ensures none { result ≡ false →
+            (i : ℕ) → Contains (waiting (state self.old).rest) (input i chan) → ⊥ }
+        ensures unchanged { result ≡ false → self.new ≡ self.old }
+        ensures inside { inner_channels self.new ≡ inner_channels self.old }
+    {
+        self.go_on(Waits::Input { chan }, Some(message))
+    }
+
+    /// The site that waits for this goes on, if there is one; answers whether there was.
+    #[inline(always)]
+    #[tactic(auto, unfolding(crate::specs::Runnings::state, crate::specs::Runnings::inner_channels))]
+    fn go_on(&mut self, wanted: Waits, message: Option<Bytes>) -> bool
+        requires { FitsWait wanted message }
+        ensures went { result ≡ true →
+            Acts (state self.old) (step_of wanted message) (state self.new) }
+        ensures none { result ≡ false →
+            (i : ℕ) → Contains (waiting (state self.old).rest) (waits_at wanted i) → ⊥ }
+        ensures unchanged { result ≡ false → self.new ≡ self.old }
+        ensures inside { inner_channels self.new ≡ inner_channels self.old }
+    {
+        let Some(site) = self.waits_on(wanted) else {
+            return false;
+        };
+        self.waiters.forget(wanted);
+        self.task.go(&mut Resume { site, message }, &mut self.vars);
+        true
+    }
+
+    /// A site that waits for this, if one does; it is looked for among the frames where none is noted.
+    #[inline(always)]
+    fn waits_on(&self, wanted: Waits) -> Option<u16>
         ensures { MatchOption result
             ((i : ℕ) → Contains (waiting (remains self.now.task)) (waits_at wanted i) → ⊥)
             (λ i. Contains (waiting (remains self.now.task)) (waits_at wanted i)) }
     {
-        if let Some(frame) = self.task.find(hint) {
-            if frame.waits() == Some(wanted) {
-                return Some(frame.site);
-            }
+        match self.waiters.site(wanted) {
+            Some(site) => Some(site),
+            None => self.task.waits_on(wanted),
         }
-        self.task.waits_on(wanted)
     }
 
     /// The site whose output on the channel waits to be finished, if there is one.
@@ -502,7 +565,7 @@ impl Running {
             ((i : ℕ) → Contains (waiting (state self.now).rest) (output i chan) → ⊥)
             (λ i. Contains (waiting (state self.now).rest) (output i chan)) }
     {
-        self.waits_on(self.hints.output_on(chan), Waits::Output { chan })
+        self.waits_on(Waits::Output { chan })
     }
 
     /// The site whose input on the channel waits for a message, if there is one.
@@ -512,7 +575,7 @@ impl Running {
             ((i : ℕ) → Contains (waiting (state self.now).rest) (input i chan) → ⊥)
             (λ i. Contains (waiting (state self.now).rest) (input i chan)) }
     {
-        self.waits_on(self.hints.input_on(chan), Waits::Input { chan })
+        self.waits_on(Waits::Input { chan })
     }
 
     /// What its parts are at that do not go on by themselves, in order of site; of an ALT each open guard, in order.

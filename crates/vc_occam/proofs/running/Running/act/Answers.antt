@@ -1,6 +1,7 @@
 use Rattle.std.proofs.Common.{◌≡◌, ◌∙◌, ap, refl, sym, subst}
 use Rattle.std.specs.List.{Contains}
 use Rattle.vc_occam.specs.declared.moves.Move.{Move}
+use Rattle.vc_occam.specs.declared.moves.Move.TheVariants as move
 use Rattle.vc_occam.specs.First.{own, first_moves}
 use Rattle.vc_occam.specs.Frames.{remains}
 use Rattle.vc_occam.specs.Private.MoveSites.{CanBegin, HasMet, at}
@@ -11,7 +12,9 @@ use Rattle.vc_process.specs.Terms.{store}
 use Rattle.vc_process.specs.Usage.{among}
 use Rattle.vc_occam.proofs.Meets.{acts_met, can_begin, meeting_listed, other_listed, met_sites, met_use}
 use Rattle.vc_occam.proofs.NoInnerChannels.{apart}
+use Rattle.vc_occam.proofs.NotedWaits.{all_stay}
 use Rattle.vc_occam.proofs.OtherMoves.{stays}
+use Rattle.vc_occam.proofs.StepWaits.{waits_after}
 use Rattle.vc_occam.proofs.running.Running.act.Goals as goal
 
 pub meet-requires-clause-meets : goal.meet-requires-clause-meets
@@ -45,6 +48,21 @@ invariant_of-self-clause-uses_lawfully c =
     let i = c.in-Inner.sender in
     let d = c.in-Inner.chan in
     met_use before after i c.in-Inner.receiver c.in-Inner.guard d c.args.answer self.uses_lawfully (subst (λ (m : Move). HasMet before i d m c.args.answer after) c.partner-taken.ensures c.meet.ensures.met)
+
+pub invariant_of-self-clause-waiting : goal.invariant_of-self-clause-waiting
+unfolding state inner_channels
+invariant_of-self-clause-waiting c =
+    let self = c.args.self.now in
+    let before = at (remains self.task) (store self.vars.items) in
+    let after = at (remains c.meet.new.task) (store c.meet.new.vars.items) in
+    let i = c.in-Inner.sender in
+    let j = c.in-Inner.receiver in
+    let k = c.in-Inner.guard in
+    let d = c.in-Inner.chan in
+    let fits = subst (λ (m : Move). FitsMove m (sent_by before m) c.args.answer) c.in-Inner.is c.requires.fits in
+    let acts = acts_met before after i j k d c.args.answer self.uses_lawfully fits (subst (λ (m : Move). HasMet before i d m c.args.answer after) c.partner-taken.ensures c.meet.ensures.met) in
+    let kept = waits_after before after (doing (move.Inner i j k d) (sent_by before (move.Inner i j k d)) c.args.answer) acts.0 acts.1 in
+    all_stay self.waiters _ _ (λ w. (kept w).1) self.waiting
 
 pub returns-in-Inner-clause-made : goal.returns-in-Inner-clause-made
 unfolding state inner_channels

@@ -4,13 +4,16 @@ use Rattle.vc_occam.specs.Private.Frames.{HasVariables, seen_task, shown, whole}
 use Rattle.vc_occam.specs.InUse.{UsesLawfully}
 use Rattle.vc_occam.specs.Private.MoveSites.{at}
 use Rattle.vc_occam.specs.Private.Sites.{InPreorder}
+use Rattle.vc_occam.specs.Private.Waiters.{AllWait}
 use Rattle.vc_occam.specs.Remains.{Rest}
 use Rattle.vc_occam.specs.Sites.{OwnSites}
 use Rattle.vc_occam.specs.Runnings.{inner_channels, state}
+use Rattle.vc_occam.specs.States.{waiting}
 use Rattle.vc_occam.specs.StepsInARow.{RestsOn, still}
 use Rattle.vc_process.specs.Syntax.{Proc}
 use Rattle.vc_process.specs.Terms.{store}
 use Rattle.vc_process.specs.Usage.{among}
+use Rattle.vc_occam.proofs.NotedWaits.{all_stay, same_stay, steps_wait}
 use Rattle.vc_occam.proofs.Outcomes.{task_outcome}
 use Rattle.vc_occam.proofs.StepsInARow.{can_begin, kept_on, left_as, rests_on, stepped_plan, stepped_sound}
 use Rattle.vc_occam.proofs.running.Running.make_steps.Goals as goal
@@ -33,6 +36,7 @@ invariant_of-self c =
       own_sites = subst OwnSites left kept.0;
       uses_lawfully = subst UsesLawfully left kept.1;
       sound = stepped_sound steps;
+      waiting = subst (λ (q : Rest). AllWait r.waiters (waiting q)) left (all_stay r.waiters _ _ (same_stay _ _ (steps_wait steps)) r.waiting);
     }
 
 pub returns-then-steps-gt0-clause-made : goal.returns-then-steps-gt0-clause-made

@@ -10,6 +10,7 @@ use Rattle.vc_occam.specs.Sites.{OwnSites}
 use Rattle.vc_process.specs.Numbering.{written}
 use Rattle.vc_process.specs.Terms.{store}
 use Rattle.vc_process.proofs.Numbers.{written_is}
+use Rattle.vc_occam.proofs.NotedWaits.{none_waits}
 use Rattle.vc_occam.proofs.Scope.{fits_variables, kinds_length}
 use Rattle.vc_occam.proofs.Preservation.{begins}
 use Rattle.vc_occam.proofs.Preorder.{at_first, in_preorder}
@@ -29,6 +30,7 @@ invariant_of-result c =
       own_sites = subst (λ (v : View). OwnSites v.rest) is (at_first p);
       uses_lawfully = subst (λ (v : View). UsesLawfully v.rest) is (begins (written p) c.requires.lawful);
       sound = ap (λ (v : View). v.sound) (sym is);
+      waiting = none_waits _ _ c.new-waiters.ensures.outputs c.new-waiters.ensures.inputs;
     }
 
 pub returns-clause-state : goal.returns-clause-state

@@ -5,6 +5,7 @@ use Rattle.vc_process.specs.Terms.{store}
 use Rattle.vc_occam.proofs.MoveActs.{resumes}
 use Rattle.vc_occam.proofs.Preservation.{step_uses}
 use Rattle.vc_occam.proofs.Made.{able_on}
+use Rattle.vc_occam.proofs.NotedWaits.{none_waits}
 use Rattle.vc_occam.proofs.Sites.{step_keeps}
 use Rattle.vc_occam.proofs.Tasks.{goes_on_loud, same_preorder, same_variables, task_did}
 use Rattle.vc_occam.proofs.running.Running.resume.Goals as goal
@@ -34,6 +35,7 @@ invariant_of-self c =
       own_sites = (step_keeps did.1 self.own_sites).1;
       uses_lawfully = step_uses did.1 self.uses_lawfully;
       sound = went.sound;
+      waiting = none_waits _ _ c.new-self.ensures.outputs c.new-self.ensures.inputs;
     }
 
 pub returns-clause-resumed : goal.returns-clause-resumed

@@ -9,7 +9,9 @@ use Rattle.vc_occam.proofs.MoveActs.{acts}
 use Rattle.vc_occam.proofs.Preservation.{step_uses}
 use Rattle.vc_occam.proofs.Made.{able}
 use Rattle.vc_occam.proofs.Meets.{other_listed}
+use Rattle.vc_occam.proofs.NotedWaits.{all_stay, same_stay}
 use Rattle.vc_occam.proofs.Sites.{step_keeps}
+use Rattle.vc_occam.proofs.StepWaits.{step_waits}
 use Rattle.vc_occam.proofs.Tasks.{same_preorder, same_variables, task_did}
 use Rattle.vc_occam.proofs.running.Running.step.Goals as goal
 
@@ -39,6 +41,7 @@ invariant_of-self c =
       own_sites = (step_keeps did.1 self.own_sites).1;
       uses_lawfully = step_uses did.1 self.uses_lawfully;
       sound = went.sound;
+      waiting = all_stay self.waiters _ _ (same_stay _ _ (step_waits did.1)) self.waiting;
     }
 
 pub returns-clause-made : goal.returns-clause-made
