@@ -1,7 +1,7 @@
 #!/usr/bin/env python3
 """Holds the documents against the repository: bench/documents.py. It prints a line for each of these, and fails where there is one:
 
-- a file or a source that a document names and that is not there;
+- a file or a source that a document names and that is not there, or a module of specs/ or proofs/ that its crate has not;
 - a crate that README.md or docs/ names as `vc_..` and that crates.txt has not;
 - a sentence of theirs with over 40 words;
 - a name between backticks (a function, a type, a clause, an edit) that no source, script, example or file has; words in capitals stand for
@@ -82,6 +82,21 @@ def unknown_names(path, text, known):
                 yield f"{path}: no source has {word}: `{code[:60]}`"
 
 
+def stands(crate, name):
+    place = f"{ROOT}/crates/{crate}/{name}"
+    return any(os.path.exists(f"{place}{ending}") for ending in (".antt", ".rt", ""))
+
+
+def lost_modules(path, text):
+    """A module without its crate, as `specs/Names`, is one of the crate that is named last before it in the paragraph or the row."""
+    for line in text.split("\n"):
+        crate = None
+        for named, name in re.findall(r"\b(vc_\w+)|`((?:specs|proofs|src)/[\w/.+]+)`", line):
+            crate = named or crate
+            if name and not any(stands(it, name) for it in ([crate] if crate else os.listdir(f"{ROOT}/crates"))):
+                yield f"{path}: there is no {name} in {crate or 'any crate'}"
+
+
 def missing_specs(path, text):
     for crate, folder, files in re.findall(r"\b(vc_\w+)/(specs/Private|specs|proofs)/(\w+(?:, [A-Z]\w+)*)", text):
         for name in files.split(", "):
@@ -104,7 +119,7 @@ def main():
         text = text_of(path)
         told += [*missing_files(path, text), *missing_crates(path, text)]
         if not path.startswith("docs/lab/"):
-            told += missing_specs(path, text)
+            told += [*missing_specs(path, text), *lost_modules(path, text)]
         told += long_sentences(path, text)
         if not path.startswith("docs/lab/") and not path.endswith("FORMAT.md"):
             told += unknown_names(path, text, known)
