@@ -34,6 +34,13 @@ def constants(source):
     return {name: re.sub(r"\\\n\s*", "", text) for name, text in found}
 
 
+def without(text, numbers):
+    """The text without the numbers that it ends with, in brackets: they must be those that the option takes."""
+    if not text.endswith(f" ({numbers})"):
+        sys.exit(f"{SOURCE}: not the numbers that are taken: {text}")
+    return text.removesuffix(f" ({numbers})")
+
+
 def options(function, source):
     """Each option of the command that the function makes: its name, what it takes, what it does, its numbers, and what it is at first.
     The text of a flag that several commands have is a constant."""
@@ -43,8 +50,8 @@ def options(function, source):
     optional = re.findall(rf"optional_number\(\s*alloc,\s*{TEXT},\s*{TEXT},\s*(\w+!?\(\w*\)),?\s*\)", function)
     files = re.findall(rf"file_option\(\s*alloc,\s*{TEXT},\s*{TEXT},?\s*\)", function)
     flags = re.findall(rf"\bflag\(\s*alloc,\s*{TEXT},\s*{TEXT},?\s*\)", function)
-    rows = [(name, "N", text, NUMBERS[numbers], usual) for name, text, numbers, usual in numbered]
-    rows += [(name, "N", text, NUMBERS[numbers], None) for name, text, numbers in optional]
+    rows = [(name, "N", without(text, NUMBERS[numbers]), NUMBERS[numbers], usual) for name, text, numbers, usual in numbered]
+    rows += [(name, "N", without(text, NUMBERS[numbers]), NUMBERS[numbers], None) for name, text, numbers in optional]
     rows += [(name, "FILE", text, None, None) for name, text in files]
     return rows + [(name, "", text, "", None) for name, text in flags]
 

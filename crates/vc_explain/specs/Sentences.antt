@@ -34,7 +34,7 @@ abbrev pub kind_sentence : List Step → List ℕ
 kind_sentence path =
     cond (leads_to_row path)
     (codes "The row of the table is not three or four values of the kinds that its places want. Write four numbers, or two numbers and `portal`. A file of version 1 has no portal: write version 2.")
-    (codes "The value is not of the kind, or the list not of the length, that its place wants, or it is a name of a wrong form, or one that is given already. Write a value of that kind, or another name.")
+    (codes "The value is of another kind than its place wants, is a number that is not whole, or is none of the words that may stand there. Or the list has another length than its place wants, or the name has a wrong form or is given already. Write what the place takes, or another name.")
 
 -- what is not known: a field of an object, to which each path of less than three steps leads, or a name, or a word of a process
 abbrev pub unknown_sentence : List Step → List ℕ
@@ -43,7 +43,7 @@ unknown_sentence path =
     (codes "The switch has a field that the format does not know. Correct its spelling, or leave it out. A file of version 1 has no `random`: write version 2.")
     (cond (nat_lt (length path) 3)
     (codes "The object has a field that the format does not know there. Correct its spelling, or leave it out.")
-    (codes "The name is that of nothing in the network, or the object has a field that the format does not know. Correct its spelling, or write what it names."))
+    (codes "The name is that of nothing in the network, the word is that of no process, or the object has a field that it may not have. Correct its spelling, or write what it names."))
 
 -- a text that is refused
 abbrev pub text_sentence : ReadRefused → List ℕ

@@ -27,7 +27,7 @@ fn kind_sentence(path: &Path) -> &'static str
     if is_row(path) {
         "The row of the table is not three or four values of the kinds that its places want. Write four numbers, or two numbers and `portal`. A file of version 1 has no portal: write version 2."
     } else {
-        "The value is not of the kind, or the list not of the length, that its place wants, or it is a name of a wrong form, or one that is given already. Write a value of that kind, or another name."
+        "The value is of another kind than its place wants, is a number that is not whole, or is none of the words that may stand there. Or the list has another length than its place wants, or the name has a wrong form or is given already. Write what the place takes, or another name."
     }
 }
 
@@ -40,7 +40,7 @@ fn unknown_sentence(path: &Path) -> &'static str
     } else if path.len() < 3 {
         "The object has a field that the format does not know there. Correct its spelling, or leave it out."
     } else {
-        "The name is that of nothing in the network, or the object has a field that the format does not know. Correct its spelling, or write what it names."
+        "The name is that of nothing in the network, the word is that of no process, or the object has a field that it may not have. Correct its spelling, or write what it names."
     }
 }
 

@@ -16,7 +16,8 @@ const VERSION: &str = "1.1.0";
 
 /// What stands at the end of the program's help.
 const PROGRAM_HELP: &str = "\
-Each subcommand reads one network, as JSON, from standard input (docs/FORMAT.md), and writes to standard output.
+Each subcommand reads one network, as JSON, from standard input (docs/FORMAT.md), and writes to standard output. Write `vcnet step < FILE`, \
+and not `vcnet step FILE`.
 
 Exit status: 0 done, accepted, free, drawn; 1 quiet, cycle; 2 refused; 3 a limit was reached; 4 no memory or no thread; 5 a bad command line; 6 a stream failed.
 
@@ -176,7 +177,7 @@ fn draw_definition<'a>(alloc: Global) -> Result<Command<'a>, AllocError>
     let after = optional_number(
         alloc,
         "after",
-        "Draws the network with its state after N events",
+        "Draws the network with its state after N events (0 to 1,000,000,000)",
         counts(),
     );
     Command::new(alloc, "draw")
@@ -210,14 +211,14 @@ fn step_definition<'a>(alloc: Global) -> Result<Command<'a>, AllocError>
     let limit = number_option(
         alloc,
         "limit",
-        "Makes at most so many events",
+        "Makes at most N events (0 to 1,000,000,000)",
         counts(),
         "1000000",
     );
     let schedule = number_option(
         alloc,
         "schedule",
-        "Makes the events in a random order that N repeats, or in turn where N is 0",
+        "Makes the events in a random order that N repeats, or in turn where N is 0 (0 to 4,294,967,295)",
         value_parser!(u32),
         "0",
     );
@@ -246,14 +247,14 @@ fn run_definition<'a>(alloc: Global) -> Result<Command<'a>, AllocError>
     let turns = number_option(
         alloc,
         "turns",
-        "Lets each thread make at most so many turns",
+        "Lets each thread make at most N turns (0 to 1,000,000,000)",
         counts(),
         "10000000",
     );
     let seed = number_option(
         alloc,
         "seed",
-        "Begins the words that random headers are made of",
+        "Begins the words that random headers are made of (0 to 4,294,967,295)",
         value_parser!(u32),
         "0",
     );
