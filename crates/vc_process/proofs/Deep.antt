@@ -1,5 +1,5 @@
 -- How deep parts, branches and guards are.
-use Rattle.std.proofs.Common.{◌≡◌, ℕ, zero, suc, ◌+◌, Bool, true, ◌&&◌, nat_lt, refl, sym, ◌∙◌, List, arith}
+use Rattle.std.proofs.Common.{◌≡◌, ℕ, zero, suc, ◌+◌, Bool, ◌&&◌, nat_lt, refl, sym, ◌∙◌, List, arith}
 use Rattle.vc_process.specs.Numbering.{Numbered, NumberedBranch, NumberedGuard, branches_from, guards_from, parts_from}
 use Rattle.vc_process.specs.ProcessLimits.{branches_depth_within, depth_within, guards_depth_within, parts_depth_within}
 use Rattle.vc_process.proofs.Walks.{Splits}
@@ -7,10 +7,6 @@ use Rattle.vc_process.proofs.Walks.{Splits}
 more_depth : (d : ℕ) (b : Bool) → (d ≡ 0 → ⊥) → (nat_lt 0 d && b) ≡ b
 more_depth zero b some = absurd (some refl)
 more_depth (suc d) b some = grind arith
-
-pub some_depth : (d : ℕ) → (d ≡ 0 → ⊥) → true ≡ nat_lt 0 d
-some_depth zero some = absurd (some refl)
-some_depth (suc d) some = grind arith
 
 -- a process is one deeper than what is within it
 pub deeper : (d : ℕ) (r : Bool) (within whole : ℕ → Bool) → (d ≡ 0 → ⊥) → ((s : ℕ) → whole s ≡ (nat_lt 0 d && within (suc s))) → ((s : ℕ) → r ≡ within s) → (s : ℕ) → r ≡ whole s

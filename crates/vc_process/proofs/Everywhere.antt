@@ -1,12 +1,9 @@
 -- What is asked everywhere is asked of a process apart from its parts, and then of its parts.
 use Rattle.std.proofs.Common.{◌≡◌, ℕ, suc, ◌+◌, Bool, true, false, ◌&&◌, refl, ap, sym, ◌∙◌, List}
-use Rattle.vc_process.specs.declared.condition.Cond.{Cond}
-use Rattle.vc_process.specs.declared.expression.Expr.{Expr}
 use Rattle.vc_process.specs.declared.process.Process.TheOpen as layer
 use Rattle.vc_process.specs.Private.Questions.{Asking, everywhere, in_branches, in_guards, in_parts}
 use Rattle.vc_process.specs.Numbering.{Numbered, NumberedBranch, NumberedGuard, branches_from, guards_from, numbered, parts_from}
 use Rattle.vc_process.specs.Syntax.{Proc, SKIP, STOP, Assign, Output, Input, StopChan, SEQ, PAR, IF, WHILE, COUNT, ALT}
-use Rattle.vc_process.specs.Terms.{exp, as_test}
 use Rattle.vc_process.proofs.Walks.{Splits}
 
 module _ (a : Asking) where
@@ -26,26 +23,6 @@ module _ (a : Asking) where
   not_itself (WHILE i t p) h = ap (λ b. b && everywhere a p) h
   not_itself (COUNT i v x n p) h = ap (λ b. b && everywhere a p) h
   not_itself (ALT i gs) h = ap (λ b. b && in_guards a gs) h
-
-  pub of_seq : (n : Numbered) (ns : List Numbered) (site : ℕ) (r : Bool) → n ≡ numbered (layer.Seq ns) → ((s : ℕ) → r ≡ in_parts a (parts_from s ns)) → Asked n site r
-  of_seq n ns site r h f k =
-      let i : true ≡ a.itself (SEQ site (parts_from (suc site) ns)) = k ∙ ap (λ (z : Numbered). a.itself (z.tree site)) h in
-      f (suc site) ∙ ap (λ b. b && in_parts a (parts_from (suc site) ns)) i ∙ ap (λ (z : Numbered). everywhere a (z.tree site)) (sym h)
-
-  pub of_par : (n : Numbered) (ns : List Numbered) (site : ℕ) (r : Bool) → n ≡ numbered (layer.Par ns) → ((s : ℕ) → r ≡ in_parts a (parts_from s ns)) → Asked n site r
-  of_par n ns site r h f k =
-      let i : true ≡ a.itself (PAR site (parts_from (suc site) ns)) = k ∙ ap (λ (z : Numbered). a.itself (z.tree site)) h in
-      f (suc site) ∙ ap (λ b. b && in_parts a (parts_from (suc site) ns)) i ∙ ap (λ (z : Numbered). everywhere a (z.tree site)) (sym h)
-
-  pub of_while : (n : Numbered) (t : Cond) (q : Numbered) (site : ℕ) (r : Bool) → n ≡ numbered (layer.While t q) → ((s : ℕ) → r ≡ everywhere a (q.tree s)) → Asked n site r
-  of_while n t q site r h f k =
-      let i : true ≡ a.itself (WHILE site (as_test t) (q.tree (suc site))) = k ∙ ap (λ (z : Numbered). a.itself (z.tree site)) h in
-      f (suc site) ∙ ap (λ b. b && everywhere a (q.tree (suc site))) i ∙ ap (λ (z : Numbered). everywhere a (z.tree site)) (sym h)
-
-  pub of_count : (n : Numbered) (v : ℕ) (x y : Expr) (q : Numbered) (site : ℕ) (r : Bool) → n ≡ numbered (layer.Count v x y q) → ((s : ℕ) → r ≡ everywhere a (q.tree s)) → Asked n site r
-  of_count n v x y q site r h f k =
-      let i : true ≡ a.itself (COUNT site v (exp x) (exp y) (q.tree (suc site))) = k ∙ ap (λ (z : Numbered). a.itself (z.tree site)) h in
-      f (suc site) ∙ ap (λ b. b && everywhere a (q.tree (suc site))) i ∙ ap (λ (z : Numbered). everywhere a (z.tree site)) (sym h)
 
   pub of_if : (n : Numbered) (bs : List NumberedBranch) (site : ℕ) (r : Bool) → n ≡ numbered (layer.If bs) → ((s : ℕ) → r ≡ in_branches a (branches_from s bs)) → Asked n site r
   of_if n bs site r h f k =

@@ -1,9 +1,7 @@
 -- What is asked of an assignment, an output or an input, and what an expression is worth.
-use Rattle.std.proofs.Common.{◌≡◌, ℕ, ℤ, ◌<◌, ◌&&◌, not, refl, ap, sym, ◌∙◌, List, length, Option, Some, None}
+use Rattle.std.proofs.Common.{◌≡◌, ℕ, ℤ, ◌<◌, ◌&&◌, refl, ap, sym, ◌∙◌, List, length, Option, Some, None}
 use Rattle.std.specs.Prelude.{nat_lt, is_some, option_and_then}
 use Rattle.std.proofs.lemmas.Bool.{lt-ltb}
-use Rattle.vc_process.specs.declared.condition.Cond.{Cond}
-use Rattle.vc_process.specs.declared.condition.Cond.TheVariants as cond
 use Rattle.vc_process.specs.declared.datum.Datum.TheVariants as datum
 use Rattle.vc_process.specs.declared.expression.Expr.{Expr}
 use Rattle.vc_process.specs.declared.process.Process.{Process}
@@ -11,20 +9,12 @@ use Rattle.vc_process.specs.declared.process.Process.TheVariants as process
 use Rattle.vc_process.specs.declared.value.Value.{Value}
 use Rattle.vc_process.specs.declared.value.Value.TheVariants as value
 use Rattle.vc_process.specs.declared.value_kind.ValueKind.{ValueKind}
-use Rattle.vc_process.specs.Private.Questions.{in_length_itself, names_itself, within_itself}
+use Rattle.vc_process.specs.Private.Questions.{names_itself}
 use Rattle.vc_process.specs.InOrder.{number}
-use Rattle.vc_process.specs.Limits.{given_in_length, given_within}
 use Rattle.vc_process.specs.Numbering.{Numbered}
-use Rattle.vc_process.specs.Terms.{as_test, exp, given}
-use Rattle.vc_process.specs.Values.{Store, datum_of, holds, value_of}
-use Rattle.vc_process.proofs.Numbers.{number_receive, number_send, number_set}
-use Rattle.vc_process.proofs.Trees.{test_not}
-
-pub set_within : (p : Process) (v : ℕ) (a : Value) (n site : ℕ) → p ≡ process.Set v a → within_itself n ((number p).tree site) ≡ given_within (given a) n
-set_within p v a n site h = ap (λ (m : Numbered). within_itself n (m.tree site)) (number_set p v a h)
-
-pub send_in_length : (p : Process) (c : ℕ) (a : Value) (site : ℕ) → p ≡ process.Send c a → in_length_itself ((number p).tree site) ≡ given_in_length (given a)
-send_in_length p c a site h = ap (λ (m : Numbered). in_length_itself (m.tree site)) (number_send p c a h)
+use Rattle.vc_process.specs.Terms.{exp, given}
+use Rattle.vc_process.specs.Values.{Store, datum_of, value_of}
+use Rattle.vc_process.proofs.Numbers.{number_receive}
 
 pub receive_fits : (p : Process) (c v n site : ℕ) (kinds : List ValueKind) (x y : ℕ) → p ≡ process.Receive c v → x ≡ c → x < n → y ≡ v → nat_lt y (length kinds) ≡ names_itself kinds n ((number p).tree site)
 receive_fits p c v n site kinds x y h e l f =
@@ -36,6 +26,3 @@ has_whole a e s h = ap (λ b. is_some (datum_of (given b) s)) h ∙ some (value_
     some : (o : Option ℤ) → is_some (option_and_then (λ z. Some (datum.Int z)) o) ≡ is_some o
     some (Some z) = refl
     some None = refl
-
-pub holds_not : (b c d : Cond) (s : Store) (x : _) → b ≡ cond.Not c → d ≡ c → Some x ≡ holds (as_test d) s → Some (not x) ≡ holds (as_test b) s
-holds_not b c d s x h e f = ap (λ o. option_and_then (λ y. Some (not y)) o) (f ∙ ap (λ k. holds (as_test k) s) e) ∙ sym (ap (λ t. holds t s) (test_not b c h))

@@ -1,7 +1,5 @@
 -- Parts, branches and guards, gone through from the first on.
 use Rattle.std.proofs.Common.{◌≡◌, ℕ, zero, suc, ◌+◌, ◌<◌, ◌≤◌, Bool, true, false, ◌&&◌, refl, ap, sym, ◌∙◌, List, [], ◌∷◌, ◌++◌, map, length, get_or, drop, arith, add-one, append_assoc, append-nil, Result, Ok, Err, OnOk}
-use Rattle.std.specs.Result.{IsErr}
-use Rattle.std.proofs.lemmas.Bool.{false≢true}
 
 -- one of them, and those behind it
 pub drop_at : {X N : Type 0} (num : X → N) (k : ℕ) (xs : List X) (x : X) → k < length xs → x ≡ get_or xs k x → map num (drop k xs) ≡ num x ∷ map num (drop (k + 1) xs)
@@ -77,16 +75,6 @@ pub adds_both : {A E : Type 0} (r : Result (Unit {0}) E) (before mid now : List 
 adds_both (Ok u) before mid now xs ys zs f first same h = λ s. h (f s) ∙ ap (λ ws. ws ++ ys (f s)) first ∙ append_assoc before xs (ys (f s)) ∙ ap (λ ws. before ++ ws) (sym (same s))
 adds_both (Err e) before mid now xs ys zs f first same h = h
 
--- what is added at every site alike
-pub adds_sited : {A E : Type 0} (r : Result (Unit {0}) E) (before now xs : List A) (ys : ℕ → List A) → ((s : ℕ) → ys s ≡ xs) → OnOk r (now ≡ before ++ xs) → OnOk r ((s : ℕ) → now ≡ before ++ ys s)
-adds_sited (Ok u) before now xs ys same h = λ s. h ∙ ap (λ zs. before ++ zs) (sym (same s))
-adds_sited (Err e) before now xs ys same h = h
-
--- first these and then those
-pub adds_along : {A E : Type 0} (r : Result (Unit {0}) E) (before mid now : List A) (xs ys : ℕ → List A) → ((s : ℕ) → mid ≡ before ++ xs s) → OnOk r ((s : ℕ) → now ≡ mid ++ ys s) → OnOk r ((s : ℕ) → now ≡ before ++ (xs s ++ ys s))
-adds_along (Ok u) before mid now xs ys first h = λ s. h s ∙ ap (λ ws. ws ++ ys s) (first s) ∙ append_assoc before (xs s) (ys s)
-adds_along (Err e) before mid now xs ys first h = h
-
 -- the same, where no site is asked for
 pub adds_same : {A E : Type 0} (r : Result (Unit {0}) E) (before now xs ys : List A) → ys ≡ xs → OnOk r (now ≡ before ++ xs) → OnOk r (now ≡ before ++ ys)
 adds_same (Ok u) before now xs ys same h = h ∙ ap (λ zs. before ++ zs) (sym same)
@@ -95,10 +83,3 @@ adds_same (Err e) before now xs ys same h = h
 pub adds_more : {A E : Type 0} (r : Result (Unit {0}) E) (before mid now xs ys zs : List A) → mid ≡ before ++ xs → zs ≡ xs ++ ys → OnOk r (now ≡ mid ++ ys) → OnOk r (now ≡ before ++ zs)
 adds_more (Ok u) before mid now xs ys zs first same h = h ∙ ap (λ ws. ws ++ ys) first ∙ append_assoc before xs ys ∙ ap (λ ws. before ++ ws) (sym same)
 adds_more (Err e) before mid now xs ys zs first same h = h
-
-pub adds_none : {A : Type 0} (before ys : List A) → ys ≡ [] → before ≡ before ++ ys
-adds_none before ys none = sym (append-nil before) ∙ ap (λ zs. before ++ zs) (sym none)
-
-pub not_added : {E : Type 0} (r : Result (Unit {0}) E) (P : Type 0) → IsErr r → OnOk r P
-not_added (Ok u) P e = absurd (false≢true e)
-not_added (Err m) P e = tt

@@ -10,7 +10,7 @@
 //! eight bytes, missing ones being 0 (`specs/Messages`).
 //!
 //! [`check_use`] accepts exactly the processes that use channels and variables lawfully, and else tells the first offender. Of each
-//! PAR it lists what its parts use, puts that in order, and compares all uses of one thing with the first of them (`sharing.rt`).
+//! PAR it lists what its parts use, puts that in order, and compares all uses of one thing with the first of them (`conflicts.rt`).
 //! That what it says against a process is right, and that there is nothing else to say, is a law (`laws.rt`).
 #![tactic(auto)]
 
@@ -18,6 +18,7 @@ mod asked;
 mod bytes_expression;
 mod channel_use;
 mod condition;
+mod conflicts;
 mod copies;
 mod datum;
 mod depth;
@@ -25,12 +26,11 @@ mod evaluation;
 mod expression;
 mod laws;
 mod limits;
-mod moved;
 mod operator;
 mod process;
 mod process_limits;
 mod relation;
-mod sharing;
+mod renaming;
 mod usages;
 mod use_check;
 mod use_fault;

@@ -11,8 +11,8 @@ ghost use Rattle.vc_process.specs.Usage.{changes as does_change};
 ghost use Rattle.vc_process.specs.UseFaults.{IsUseFault};
 
 use crate::asked::Asked;
+use crate::conflicts::check_parts;
 use crate::process::{Branch, Guard, Process};
-use crate::sharing::check_parts;
 use crate::use_fault::UseFault;
 use sqlite_items::Items;
 use std::alloc::Global;

@@ -1,10 +1,10 @@
-use Rattle.std.proofs.Common.{◌≡◌, suc, ◌-◌, nat_lt, ◌&&◌, ◌∙◌, true, map, sym, ap, refl}
+use Rattle.std.proofs.Common.{◌-◌, ◌∙◌, true, map, sym, ap, refl}
 use Rattle.vc_process.specs.InOrder.{number}
 use Rattle.vc_process.specs.Private.InOrder.{number_branch, number_guard}
-use Rattle.vc_process.specs.Numbering.{Numbered, NumberedBranch, NumberedGuard}
+use Rattle.vc_process.specs.Numbering.{NumberedBranch, NumberedGuard}
 use Rattle.vc_process.specs.ProcessLimits.{depth_within}
-use Rattle.vc_process.proofs.Deep.{deeper, some_depth, all_parts, one_part, behind_part, parts_split, all_branches, one_branch, behind_branch, branches_split, all_guards, one_guard, behind_guard, guards_split}
-use Rattle.vc_process.proofs.Numbers.{number_seq, number_par, number_if, number_while, number_count, number_alt, otherwise, number_branch_out, number_guard_out}
+use Rattle.vc_process.proofs.Deep.{all_parts, one_part, behind_part, parts_split, all_branches, one_branch, behind_branch, branches_split, all_guards, one_guard, behind_guard, guards_split}
+use Rattle.vc_process.proofs.Numbers.{number_branch_out, number_guard_out}
 use Rattle.vc_process.proofs.Walks.{reaches_next, reaches_false, reaches_end}
 use Rattle.vc_process.proofs.depth.+depth.Goals as goal
 
@@ -73,45 +73,3 @@ guards_within-returns t c =
     let d = c.args.depth in
     let r = reaches_end number_guard (all_guards d) c.as_slice-guard-items.result.now c.loop-guard.guard-index true (λ s. refl) c.loop-guard-test.false c.loop-guard.invariant in
     λ site. r site ∙ ap (λ ys. all_guards d (map number_guard ys) site) c.as_slice-guard-items.ensures
-
-pub depth_within-returns-in-Seq : goal.depth_within-returns-in-Seq
-depth_within-returns-in-Seq t c =
-    let d = c.args.depth in
-    let e = d - 1 in
-    deeper d _ (all_parts e (map number c.in-Seq.parts)) _ c.if-depth-eq0.false (λ s. ap (λ (n : Numbered). one_part d n s) (number_seq _ _ c.in-Seq.is)) c.parts_within.ensures
-
-pub depth_within-returns-in-Par : goal.depth_within-returns-in-Par
-depth_within-returns-in-Par t c =
-    let d = c.args.depth in
-    let e = d - 1 in
-    deeper d _ (all_parts e (map number c.in-Par.parts)) _ c.if-depth-eq0.false (λ s. ap (λ (n : Numbered). one_part d n s) (number_par _ _ c.in-Par.is)) c.parts_within-in-Par.ensures
-
-pub depth_within-returns-in-If : goal.depth_within-returns-in-If
-depth_within-returns-in-If t c =
-    let d = c.args.depth in
-    let e = d - 1 in
-    deeper d _ (all_branches e (map number_branch c.in-If.branches)) _ c.if-depth-eq0.false (λ s. ap (λ (n : Numbered). one_part d n s) (number_if _ _ c.in-If.is)) c.branches_within.ensures
-
-pub depth_within-returns-in-While : goal.depth_within-returns-in-While
-depth_within-returns-in-While t c =
-    let d = c.args.depth in
-    let e = d - 1 in
-    deeper d _ (one_part e (number c.get.result.now)) _ c.if-depth-eq0.false (λ s. ap (λ (n : Numbered). one_part d n s) (number_while _ _ _ c.in-While.is) ∙ ap (λ q. nat_lt 0 d && one_part e (number q) (suc s)) (sym c.get.ensures)) c.depth_within.ensures
-
-pub depth_within-returns-in-Count : goal.depth_within-returns-in-Count
-depth_within-returns-in-Count t c =
-    let d = c.args.depth in
-    let e = d - 1 in
-    deeper d _ (one_part e (number c.get-in-Count.result.now)) _ c.if-depth-eq0.false (λ s. ap (λ (n : Numbered). one_part d n s) (number_count _ _ _ _ _ c.in-Count.is) ∙ ap (λ q. nat_lt 0 d && one_part e (number q) (suc s)) (sym c.get-in-Count.ensures)) c.depth_within-in-Count.ensures
-
-pub depth_within-returns-in-Alt : goal.depth_within-returns-in-Alt
-depth_within-returns-in-Alt t c =
-    let d = c.args.depth in
-    let e = d - 1 in
-    deeper d _ (all_guards e (map number_guard c.in-Alt.guards)) _ c.if-depth-eq0.false (λ s. ap (λ (n : Numbered). one_part d n s) (number_alt _ _ c.in-Alt.is)) c.guards_within.ensures
-
-pub depth_within-returns-in_default : goal.depth_within-returns-in_default
-depth_within-returns-in_default t c = λ site.
-    let d = c.args.depth in
-    let h = some_depth d c.if-depth-eq0.false in
-    otherwise (λ (n : Numbered). true ≡ one_part d n site) c.args.process.now c.in_default.not-Seq c.in_default.not-Par c.in_default.not-If c.in_default.not-While c.in_default.not-Count c.in_default.not-Alt h h (λ v a e. h) (λ k a e. h) (λ k v e. h) (λ k e. h)

@@ -6,12 +6,12 @@ use Rattle.vc_process.specs.declared.process.Guard.{Guard}
 use Rattle.vc_process.specs.InOrder.{number}
 use Rattle.vc_process.specs.Private.InOrder.{number_branch, number_guard}
 use Rattle.vc_process.specs.Lawful.{FirstOffence, Lawfully, Offends, SideBySide, at_count, at_par}
-use Rattle.vc_process.specs.Numbering.{Numbered, NumberedBranch, NumberedGuard, numbered, parts_from, branches_from, guards_from}
+use Rattle.vc_process.specs.Numbering.{NumberedBranch, NumberedGuard, numbered, parts_from, branches_from, guards_from}
 use Rattle.vc_process.specs.Private.Clashes.{Judges}
-use Rattle.vc_process.specs.Syntax.{PAR, COUNT}
-use Rattle.vc_process.specs.Terms.{exp, as_test}
+use Rattle.vc_process.specs.Syntax.{PAR}
+use Rattle.vc_process.specs.Terms.{as_test}
 use Rattle.vc_process.proofs.Judgements.{judges_err, judges_tree, judges_seq, judges_if, judges_while, judges_alt, judges_par, judges_count, comes_next, comes_fault, comes_end, parts_so, parts_first, part_so, part_first, behind_part, parts_go, branches_so, branches_first, branch_so, branch_first, behind_branch, branches_go, guards_so, guards_first, guard_so, guard_first, behind_guard, guards_go}
-use Rattle.vc_process.proofs.Numbers.{number_seq, number_par, number_if, number_while, number_count, number_alt, otherwise, number_branch_out, number_guard_out}
+use Rattle.vc_process.proofs.Numbers.{number_seq, number_par, number_if, number_while, number_alt, number_branch_out, number_guard_out}
 use Rattle.vc_process.proofs.use_check.+check.Goals as goal
 
 pub check_all-loop-part-init : goal.check_all-loop-part-init
@@ -88,10 +88,6 @@ pub check_count-returns : goal.check_count-returns
 check_count-returns t c = λ i site a n.
     judges_count i c.args.var a n ((number c.args.body.now).tree site) c.check_process.result (sym (c.changes.ensures site) ∙ c.if-changes.false) (c.check_process.ensures site)
 
-pub check_process-returns-in_default : goal.check_process-returns-in_default
-check_process-returns-in_default t c = λ site.
-    otherwise (λ (n : Numbered). Lawfully (n.tree site)) c.args.process.now c.in_default.not-Seq c.in_default.not-Par c.in_default.not-If c.in_default.not-While c.in_default.not-Count c.in_default.not-Alt tt tt (λ v a h. tt) (λ d a h. tt) (λ d v h. tt) (λ d h. tt)
-
 pub check_process-returns-in-Seq : goal.check_process-returns-in-Seq
 check_process-returns-in-Seq t c = λ site.
     let ps = map number c.in-Seq.parts in
@@ -114,16 +110,6 @@ check_process-returns-in-While t c = λ site.
     judges_tree _ (numbered (layer.While b (number p))) site c.check_process.result (number_while c.args.process.now b p c.in-While.is)
     (judges_while site (as_test b) ((number p).tree (suc site)) c.check_process.result
     (subst (λ (q : Process). Judges c.check_process.result (Lawfully ((number q).tree (suc site))) (FirstOffence ((number q).tree (suc site)))) c.get.ensures (c.check_process.ensures (suc site))))
-
-pub check_process-returns-in-Count : goal.check_process-returns-in-Count
-check_process-returns-in-Count t c = λ site.
-    let v = c.in-Count.var in
-    let a = c.in-Count.base in
-    let n = c.in-Count.count in
-    let p = c.in-Count.body in
-    judges_tree _ (numbered (layer.Count v a n (number p))) site c.check_count.result (number_count c.args.process.now v a n p c.in-Count.is)
-    (subst (λ (q : Process). Judges c.check_count.result (Lawfully (COUNT site v (exp a) (exp n) ((number q).tree (suc site)))) (FirstOffence (COUNT site v (exp a) (exp n) ((number q).tree (suc site)))))
-    c.get-in-Count.ensures (c.check_count.ensures site (suc site) (exp a) (exp n)))
 
 pub check_process-returns-in-Alt : goal.check_process-returns-in-Alt
 check_process-returns-in-Alt t c = λ site.

@@ -1,38 +1,12 @@
-use Rattle.std.proofs.Common.{◌≡◌, [], suc, ◌∙◌, ◌++◌, map, sym, ap, refl}
+use Rattle.std.proofs.Common.{suc, ◌∙◌, ◌++◌, map, sym, ap, refl}
 use Rattle.vc_process.specs.ChannelUses.{channel_uses}
 use Rattle.vc_process.specs.InOrder.{number}
 use Rattle.vc_process.specs.Private.InOrder.{number_branch, number_guard}
 use Rattle.vc_process.specs.Numbering.{Numbered, NumberedBranch, NumberedGuard}
-use Rattle.vc_process.proofs.ChannelUses.{all_parts, one_part, behind_part, parts_join, all_branches, one_branch, behind_branch, branches_join, all_guards, one_guard, behind_guard, guards_join, all_alternatives, all_inputs, input_of, output_of}
-use Rattle.vc_process.proofs.Numbers.{number_seq, number_par, number_if, number_count, number_alt, number_send, number_receive, number_stopch, otherwise, number_branch_out, number_guard_out}
-use Rattle.vc_process.proofs.Walks.{adds_as, adds_along, adds_next, adds_end, adds_none, adds_sited}
+use Rattle.vc_process.proofs.ChannelUses.{all_parts, one_part, behind_part, parts_join, all_branches, one_branch, behind_branch, branches_join, all_guards, one_guard, behind_guard, guards_join, all_alternatives}
+use Rattle.vc_process.proofs.Numbers.{number_seq, number_par, number_if, number_alt, number_branch_out, number_guard_out}
+use Rattle.vc_process.proofs.Walks.{adds_as, adds_next, adds_end}
 use Rattle.vc_process.proofs.uses.+uses.Goals as goal
-
-pub push_uses-returns-in-Send : goal.push_uses-returns-in-Send
-push_uses-returns-in-Send t c =
-    let k = c.args.kinds.now in
-    adds_sited c.push_output.result _ _ (output_of c.in-Send.chan c.kind.result) _ (λ s. ap (λ (n : Numbered). one_part k n s) (number_send _ _ _ c.in-Send.is) ∙ ap (output_of c.in-Send.chan) (sym c.kind.ensures)) c.push_output.ensures
-
-pub push_uses-returns-in-Receive : goal.push_uses-returns-in-Receive
-push_uses-returns-in-Receive t c =
-    let k = c.args.kinds.now in
-    adds_sited c.push_input.result _ _ (input_of c.in-Receive.chan c.kind_at.result) _ (λ s. ap (λ (n : Numbered). one_part k n s) (number_receive _ _ _ c.in-Receive.is) ∙ ap (input_of c.in-Receive.chan) (sym c.kind_at.ensures)) c.push_input.ensures
-
-pub push_uses-returns-in-Stopch : goal.push_uses-returns-in-Stopch
-push_uses-returns-in-Stopch t c =
-    let k = c.args.kinds.now in
-    adds_sited c.push_input-in-Stopch.result _ _ _ _ (λ s. ap (λ (n : Numbered). one_part k n s) (number_stopch _ _ c.in-Stopch.is)) c.push_input-in-Stopch.ensures
-
-pub push_uses-returns-in_default : goal.push_uses-returns-in_default
-push_uses-returns-in_default t c = λ site.
-    adds_none _ _ (otherwise (λ (n : Numbered). one_part c.args.kinds.now n site ≡ []) c.args.process.now c.in_default.not-Seq c.in_default.not-Par c.in_default.not-If c.in_default.not-While c.in_default.not-Count c.in_default.not-Alt
-    refl refl (λ v a h. refl) (λ d a h. absurd (c.in_default.not-Send d a h)) (λ d v h. absurd (c.in_default.not-Receive d v h)) (λ d h. absurd (c.in_default.not-Stopch d h)))
-
-pub push_alternatives-returns : goal.push_alternatives-returns
-push_alternatives-returns t c =
-    let k = c.args.kinds.now in
-    let gs = map number_guard c.args.guards.now in
-    adds_along c.push_bodies.result _ _ _ (all_inputs k gs) (all_guards k gs) (λ s. c.in_ok-push_guards.ensures s) c.push_bodies.ensures
 
 pub push_uses-returns-in-Seq : goal.push_uses-returns-in-Seq
 push_uses-returns-in-Seq t c =
@@ -48,11 +22,6 @@ pub push_uses-returns-in-If : goal.push_uses-returns-in-If
 push_uses-returns-in-If t c =
     let k = c.args.kinds.now in
     adds_as _ _ _ (all_branches k (map number_branch c.in-If.branches)) _ suc (λ s. ap (λ (n : Numbered). one_part k n s) (number_if _ _ c.in-If.is)) c.push_branches.ensures
-
-pub push_uses-returns-in-Count : goal.push_uses-returns-in-Count
-push_uses-returns-in-Count t c =
-    let k = c.args.kinds.now in
-    adds_as _ _ _ (one_part k (number c.get-in-Count.result.now)) _ suc (λ s. ap (λ (n : Numbered). one_part k n s) (number_count _ _ _ _ _ c.in-Count.is) ∙ ap (λ q. one_part k (number q) (suc s)) (sym c.get-in-Count.ensures)) c.push_uses-in-Count.ensures
 
 pub push_uses-returns-in-Alt : goal.push_uses-returns-in-Alt
 push_uses-returns-in-Alt t c =

@@ -1,29 +1,12 @@
-use Rattle.std.proofs.Common.{◌≡◌, ◌∙◌, ◌&&◌, Bool, true, map, sym, ap, refl}
+use Rattle.std.proofs.Common.{◌∙◌, ◌&&◌, Bool, true, map, sym, ap, refl}
 use Rattle.vc_process.specs.Private.Questions.{asking, everywhere}
-use Rattle.vc_process.specs.declared.process.Process.TheOpen as layer
 use Rattle.vc_process.specs.InOrder.{number}
 use Rattle.vc_process.specs.Private.InOrder.{number_branch, number_guard}
-use Rattle.vc_process.specs.Numbering.{Numbered, numbered, NumberedBranch, NumberedGuard}
-use Rattle.vc_process.proofs.Everywhere.{of_seq, of_par, of_if, of_while, of_count, of_alt, not_itself, all_parts, one_part, behind_part, parts_split, all_branches, one_branch, behind_branch, branches_split, all_guards, one_guard, behind_guard, guards_split}
-use Rattle.vc_process.proofs.Numbers.{number_seq, number_par, number_while, number_count, number_if, number_alt, otherwise, number_branch_out, number_guard_out}
+use Rattle.vc_process.specs.Numbering.{NumberedBranch, NumberedGuard}
+use Rattle.vc_process.proofs.Everywhere.{of_if, of_alt, all_parts, one_part, behind_part, parts_split, all_branches, one_branch, behind_branch, branches_split, all_guards, one_guard, behind_guard, guards_split}
+use Rattle.vc_process.proofs.Numbers.{number_if, number_alt, number_branch_out, number_guard_out}
 use Rattle.vc_process.proofs.Walks.{reaches_next, reaches_false, reaches_end}
 use Rattle.vc_process.proofs.asked.Asked.+everywhere.Goals as goal
-
-pub everywhere-returns-in-Seq : goal.everywhere-returns-in-Seq
-everywhere-returns-in-Seq t c = λ site.
-    of_seq (asking c.args.self c.args.kinds.now) (number c.args.process.now) (map number c.in-Seq.parts) site _ (number_seq c.args.process.now c.in-Seq.parts c.in-Seq.is) c.in_parts.ensures (sym c.if-not-itself.false ∙ c.itself.ensures site)
-
-pub everywhere-returns-in-Par : goal.everywhere-returns-in-Par
-everywhere-returns-in-Par t c = λ site.
-    of_par (asking c.args.self c.args.kinds.now) (number c.args.process.now) (map number c.in-Par.parts) site _ (number_par c.args.process.now c.in-Par.parts c.in-Par.is) c.in_parts-in-Par.ensures (sym c.if-not-itself.false ∙ c.itself.ensures site)
-
-pub everywhere-returns-in-While : goal.everywhere-returns-in-While
-everywhere-returns-in-While t c = λ site.
-    of_while (asking c.args.self c.args.kinds.now) (number c.args.process.now) c.in-While.cond (number c.get.result.now) site _ (number_while _ _ _ c.in-While.is ∙ ap (λ q. numbered (layer.While c.in-While.cond (number q))) (sym c.get.ensures)) c.everywhere.ensures (sym c.if-not-itself.false ∙ c.itself.ensures site)
-
-pub everywhere-returns-in-Count : goal.everywhere-returns-in-Count
-everywhere-returns-in-Count t c = λ site.
-    of_count (asking c.args.self c.args.kinds.now) (number c.args.process.now) c.in-Count.var c.in-Count.base c.in-Count.count (number c.get-in-Count.result.now) site _ (number_count _ _ _ _ _ c.in-Count.is ∙ ap (λ q. numbered (layer.Count c.in-Count.var c.in-Count.base c.in-Count.count (number q))) (sym c.get-in-Count.ensures)) c.everywhere-in-Count.ensures (sym c.if-not-itself.false ∙ c.itself.ensures site)
 
 pub everywhere-returns-in-If : goal.everywhere-returns-in-If
 everywhere-returns-in-If t c = λ site.
@@ -33,15 +16,6 @@ pub everywhere-returns-in-Alt : goal.everywhere-returns-in-Alt
 everywhere-returns-in-Alt t c = λ site.
     of_alt (asking c.args.self c.args.kinds.now) (number c.args.process.now) (map number_guard c.in-Alt.guards) site _ (number_alt c.args.process.now c.in-Alt.guards c.in-Alt.is) c.in_guards.ensures (sym c.if-not-itself.false ∙ c.itself.ensures site)
 
-pub everywhere-returns-then-not-itself : goal.everywhere-returns-then-not-itself
-everywhere-returns-then-not-itself t c = λ site. not_itself (asking c.args.self c.args.kinds.now) ((number c.args.process.now).tree site) (sym c.if-not-itself.true ∙ c.itself.ensures site)
-
-pub everywhere-returns-in_default : goal.everywhere-returns-in_default
-everywhere-returns-in_default t c = λ site.
-    let a = asking c.args.self c.args.kinds.now in
-    otherwise (λ (n : Numbered). true ≡ a.itself (n.tree site) → true ≡ everywhere a (n.tree site)) c.args.process.now c.in_default.not-Seq c.in_default.not-Par c.in_default.not-If c.in_default.not-While c.in_default.not-Count c.in_default.not-Alt
-    (λ k. k) (λ k. k) (λ v x h k. k) (λ d x h k. k) (λ d v h k. k) (λ d h k. k) (sym c.if-not-itself.false ∙ c.itself.ensures site)
-
 pub in_branch-returns-then-condition : goal.in_branch-returns-then-condition
 in_branch-returns-then-condition t c = λ site.
     let a = asking c.args.self c.args.kinds.now in
@@ -49,26 +23,12 @@ in_branch-returns-then-condition t c = λ site.
     let whole : NumberedBranch → Bool = λ n. a.condition n.when && everywhere a (n.then_do.tree site) in
     c.everywhere.ensures site ∙ ap (λ x. x && everywhere a ((number b.body).tree site)) (sym c.if-condition.true ∙ c.condition.ensures) ∙ ap whole (sym (number_branch_out b))
 
-pub in_branch-returns-else-condition : goal.in_branch-returns-else-condition
-in_branch-returns-else-condition t c = λ site.
-    let a = asking c.args.self c.args.kinds.now in
-    let b = c.args.branch.now in
-    let whole : NumberedBranch → Bool = λ n. a.condition n.when && everywhere a (n.then_do.tree site) in
-    c.if-condition.false ∙ ap (λ x. x && everywhere a ((number b.body).tree site)) (sym c.if-condition.false ∙ c.condition.ensures) ∙ ap whole (sym (number_branch_out b))
-
 pub in_guard-returns-then-guard : goal.in_guard-returns-then-guard
 in_guard-returns-then-guard t c = λ site.
     let a = asking c.args.self c.args.kinds.now in
     let g = c.args.guard.now in
     let whole : NumberedGuard → Bool = λ n. a.condition n.when && a.channel n.chan && a.variable n.var && everywhere a (n.then_do.tree site) in
     c.everywhere.ensures site ∙ ap (λ x. x && everywhere a ((number g.body).tree site)) (sym c.if-guard.true ∙ c.guard.ensures) ∙ ap whole (sym (number_guard_out g))
-
-pub in_guard-returns-else-guard : goal.in_guard-returns-else-guard
-in_guard-returns-else-guard t c = λ site.
-    let a = asking c.args.self c.args.kinds.now in
-    let g = c.args.guard.now in
-    let whole : NumberedGuard → Bool = λ n. a.condition n.when && a.channel n.chan && a.variable n.var && everywhere a (n.then_do.tree site) in
-    c.if-guard.false ∙ ap (λ x. x && everywhere a ((number g.body).tree site)) (sym c.if-guard.false ∙ c.guard.ensures) ∙ ap whole (sym (number_guard_out g))
 
 pub in_parts-loop-part-init : goal.in_parts-loop-part-init
 in_parts-loop-part-init t c = λ site. (site, refl)

@@ -1,6 +1,0 @@
-use Rattle.std.proofs.Common.{drop}
-use Rattle.vc_process.proofs.Clashes.{Narrowed}
-use Rattle.vc_process.proofs.sharing.first_clash.Given as goal
-
-abbrev pub invariant-loop-usage : goal.invariant-loop-usage
-invariant-loop-usage l = Narrowed l.uses l.first (drop l.usage-index l.uses)
