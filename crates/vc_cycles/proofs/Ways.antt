@@ -72,10 +72,6 @@ module _ (found : List Found) (back : PointsBack found) where
       go (inl less) = not_after_before (way found n k) (way found n m) (way_before o n k m less small lt)
       go (inr same) = subst (λ j. IsNotAfter (way found n k) (way found n j)) same (not_after_itself (way found n k))
 
--- the way that is read backwards
-pub way_whole : (found : List Found) (last : ℕ) (ports : List Port) → ports ≡ [] → way found (length found) last ++ ports ≡ way found (length found) last
-way_whole found last ports is = ap (λ l. way found (length found) last ++ l) is ∙ append_nil (way found (length found) last)
-
 pub way_more : (found : List Found) → PointsBack found → (at : ℕ) (f : Found) (ports more : List Port) → 0 < at → slice_get found at ≡ Some f → more ≡ port_at f.port ∷ ports →
     way found (length found) f.from ++ more ≡ way found (length found) at ++ ports
 way_more found back zero f ports more some there is = absurd (omega arith)
@@ -84,13 +80,6 @@ way_more found back (suc k) f ports more some there is =
     let n = length found in
     ap (λ l. way found n f.from ++ l) is ∙ sym (append_assoc (way found n f.from) (port_at f.port ∷ []) ports)
     ∙ ap (λ (g : Found). (way found n g.from ++ port_at g.port ∷ []) ++ ports) (sym (found_is found (suc k) f there)) ∙ ap (λ l. l ++ ports) (sym (way_on found back n k (omega (arith, lt)) lt))
-
-pub way_round : (found : List Found) (at last : ℕ) (f : Found) (ports whole : List Port) → at ≡ 0 → slice_get found 0 ≡ Some f → way found (length found) at ++ ports ≡ way found (length found) last →
-    whole ≡ port_at f.port ∷ ports → whole ≡ way_to found last
-way_round found at last f ports whole first there way_is is =
-    let n = length found in
-    is ∙ ap (λ (g : Found). port_at g.port ∷ ports) (sym (found_is found 0 f there))
-    ∙ ap (λ l. port_at (found_at found 0).port ∷ l) (ap (λ l. l ++ ports) (sym (way_none found n)) ∙ ap (λ k. way found n k ++ ports) (sym first) ∙ way_is)
 
 -- the search comes back from the port at this place
 module _ (net : Plan) (acc : IsAccepted net) (rows : List (Vec ℕ)) (d : AreDependencies net rows) (start at : ℕ) (found : List Found) (seen : List Bool) (s : Searched rows start at found seen)

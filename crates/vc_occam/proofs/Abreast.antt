@@ -35,11 +35,6 @@ besides_go [] k v h g = absurd (let z : None ≡ Some v = h in cc)
 besides_go (u ∷ vs) zero v h g = let e : v ≡ u = cc in ap outcome_of (beside_goes (changes u.plan) u.rest (besides vs) (ap (λ (x : View). has_ended (outcome_of x.rest)) (sym e) ∙ g))
 besides_go (u ∷ vs) (suc k) v h g = ap outcome_of (goes_beside (changes u.plan) u.rest (besides vs) (ap has_ended (besides_go vs k v h g)))
 
--- the last parts have ended
-pub besides_end : (vs : List View) → besides (drop (length vs) vs) ≡ Done
-besides_end [] = refl
-besides_end (v ∷ vs) = besides_end vs
-
 pub besides_more : (vs : List View) (k : ℕ) (v : View) → slice_get vs k ≡ Some v → v.rest ≡ Done → besides (drop (suc k) vs) ≡ Done → besides (drop k vs) ≡ Done
 besides_more [] k v h g e = absurd (let z : None ≡ Some v = h in cc)
 besides_more (u ∷ vs) zero v h g e = let is : v ≡ u = cc in ap (λ r. beside_on (changes u.plan) r (besides vs)) (ap (λ (x : View). x.rest) (sym is) ∙ g) ∙ ap (beside_on (changes u.plan) Done) e

@@ -10,7 +10,7 @@ use Rattle.vc_occam.specs.declared.outcome.Outcome.{Outcome}
 use Rattle.vc_occam.specs.declared.outcome.Outcome.TheVariants as outcome
 use Rattle.vc_process.specs.Syntax.{Proc, SEQ, PAR, Procs, part}
 use Rattle.vc_process.specs.Usage.{changes}
-use Rattle.vc_occam.specs.Remains.{Rest, Beside, and_then, begin, begin_all}
+use Rattle.vc_occam.specs.Remains.{Rest, Beside, begin, begin_all}
 use Rattle.vc_occam.specs.Frames.{View, seq, par, all_sound, begun, besides, is_sound, outcome_of, plan_of, plans_of, same_outcome, task_view, view, view_of}
 use Rattle.vc_occam.specs.Private.Frames.{shape, shown, task_views, unstopped, views, whole}
 use Rattle.vc_occam.proofs.Endings.{and_then_outcome, begin_goes, beside_goes, left_goes}
@@ -42,36 +42,11 @@ task_begun v o p h g =
     let known : Bool → View = λ b. record { plan = p; rest = begin p; sound = b } in
     ap (λ w. at w o) h ∙ ap (at (begun p)) g ∙ ap seen (left_goes (outcome_of (begin p)) (begin p) (begin_goes p)) ∙ ap known (same_as_itself (outcome_of (begin p)))
 
--- the first part of a SEQ has begun
-pub seq_begins : (i at : ℕ) (fs : List Frame) (f g : Frame) → is_sound (seq (views fs) at) ≡ true → f ≡ get_or fs 0 f → view g ≡ begun (view f).plan → unstopped i (seq (views (set fs 0 g)) 0) ≡ begun (plan_of i (seq (views fs) at))
-seq_begins i at [] f g s h b = absurd (grind (arith, nat_tests))
-seq_begins i at (x ∷ fs) f g s h b =
-    let ps = plans_of (views fs) in
-    let e : view g ≡ begun (view x).plan = b ∙ ap (λ (y : Frame). begun (view y).plan) h in
-    let rest = (and_parts (view x).sound (all_sound (views fs)) (and_parts _ _ s).1).1 in
-    let known : Bool → View = λ c. record { plan = SEQ i (part (view x).plan ps); rest = and_then (begin (view x).plan) ps; sound = c } in
-    ap (λ (v : View). unstopped i (seq (v ∷ views fs) 0)) e ∙ ap known (all (length (views fs)) (all_sound (views fs)) rest)
-  where
-    all : (n : ℕ) (c : Bool) → c ≡ true → (nat_lt 0 (suc n) && (true && c)) ≡ true
-    all n true h = grind (arith, nat_tests)
-    all n false h = absurd (let z : false ≡ true = h in cc)
-
 -- what a SEQ begins with is what its first part begins with
 pub seq_begins_with : (i at : ℕ) (fs : List Frame) (f : Frame) (o : Outcome) → is_sound (seq (views fs) at) ≡ true → f ≡ get_or fs 0 f → o ≡ outcome_of (begin (view f).plan) → o ≡ outcome_of (begin (plan_of i (seq (views fs) at)))
 seq_begins_with i at [] f o s h b = absurd (grind (arith, nat_tests))
 seq_begins_with i at (x ∷ fs) f o s h b =
     b ∙ ap (λ (y : Frame). outcome_of (begin (view y).plan)) h ∙ sym (seq_outcome i (view x).plan (plans_of (views fs)))
-
--- a sound SEQ has a part
-pub seq_has_first : (at : ℕ) (fs : List Frame) → is_sound (seq (views fs) at) ≡ true → 0 < length fs
-seq_has_first at [] s = absurd (grind (arith, nat_tests))
-seq_has_first at (x ∷ fs) s = omega arith
-
--- each part of a sound frame is sound
-pub view_sound : (k : ℕ) (fs : List Frame) (f : Frame) → k < length fs → f ≡ get_or fs k f → all_sound (views fs) ≡ true → (view f).sound ≡ true
-view_sound k [] f l h s = absurd (omega arith)
-view_sound zero (x ∷ fs) f l h s = ap (λ (y : Frame). (view y).sound) h ∙ (and_parts _ _ s).0
-view_sound (suc k) (x ∷ fs) f l h s = view_sound k fs f (omega arith) h (and_parts (view x).sound _ s).1
 
 -- the parts of a PAR begin one by one
 abbrev pub all_begun : List View → List View
@@ -138,7 +113,3 @@ par_begins i (x ∷ xs) (y ∷ ys) s e =
     all : (n : ℕ) (c : Bool) → c ≡ true → (nat_lt 0 (suc n) && c) ≡ true
     all n true h = grind (arith, nat_tests)
     all n false h = absurd (let z : false ≡ true = h in cc)
-
-pub par_begins_with : (i : ℕ) (xs : List (Task View)) → is_sound (par xs) ≡ true → outcome_of (begin (plan_of i (par xs))) ≡ outcome.Other
-par_begins_with i [] s = absurd (grind (arith, nat_tests))
-par_begins_with i (x ∷ xs) s = refl

@@ -1,5 +1,5 @@
 -- What a plan that breaks no limit keeps.
-use Rattle.std.proofs.Common.{◌≡◌, ℕ, zero, suc, ◌<◌, ◌≤◌, Bool, true, false, ◌&&◌, List, [], ◌∷◌, length, Option, Some, None, refl, arith, nat_le}
+use Rattle.std.proofs.Common.{◌≡◌, ℕ, zero, suc, ◌≤◌, Bool, true, false, ◌&&◌, List, [], ◌∷◌, length, Option, Some, None, refl, arith, nat_le}
 use Rattle.std.proofs.lemmas.Bool.Decides.{nat_tests}
 use Rattle.std.specs.Prelude.{slice_get}
 use Rattle.std.specs.List.{list_all}
@@ -100,18 +100,6 @@ pub limits-fit : (p : Plan) → limit_broken p ≡ None → LimitsFit p
 limits-fit p h = λ n k plan r at is.
     let t : random_ok plan ≡ true = passes random_ok p.switches n plan (keeps p h).random at in
     range-fits r (passes range_ok plan.random k r (both (list_all range_ok plan.random) _ t).0 is)
-
-pub few-nodes : (p : Plan) → limit_broken p ≡ None → length p.nodes < 256
-few-nodes p h = let t = (keeps p h).nodes in grind (arith, nat_tests)
-
-pub few-switches : (p : Plan) → limit_broken p ≡ None → length p.switches < 256
-few-switches p h = let t = (keeps p h).switches in grind (arith, nat_tests)
-
-pub few-vlinks : (p : Plan) → limit_broken p ≡ None → length p.vlinks < 65536
-few-vlinks p h = let t = (keeps p h).vlinks in grind (arith, nat_tests)
-
-pub few-channels : (p : Plan) → limit_broken p ≡ None → length p.channels < 65536
-few-channels p h = let t = (keeps p h).channels in grind (arith, nat_tests)
 
 -- the names of each process fit
 pub names-fit : (p : Plan) → Keeps p → list_all (process_names p) p.nodes ≡ true

@@ -1,5 +1,5 @@
 -- No step of a switch is by a link that it does not have.
-use Rattle.std.proofs.Common.{◌≡◌, ℕ, ◌<◌, ◌≤◌, Bool, false, IsTrue, ◌↔◌, List, length, refl, sym, ap, ◌∙◌, subst, arith, slice_get, Option, Some, None}
+use Rattle.std.proofs.Common.{◌≡◌, ℕ, ◌<◌, ◌≤◌, Bool, IsTrue, ◌↔◌, List, length, refl, sym, ap, ◌∙◌, subst, arith, slice_get, Option, Some, None}
 use Rattle.std.proofs.lemmas.Option.{slice_get_past, slice_get_within}
 use Rattle.vc_credit.specs.Ends.{HasRoom}
 use Rattle.vc_switch.specs.Switch.{new_input}
@@ -67,6 +67,3 @@ pub free_there : (s : State) (j : ℕ) (p : LinkOut) (b : Bool) → IsSwitch s �
 free_there s j p b w here is =
     let free = free_iff s j p b w here is in
     (λ t. (is_link s.outputs j p w.output_links here, free.0 t), λ h. free.1 h.1)
-
-pub no_free : (s : State) (j : ℕ) → IsSwitch s → slice_get s.outputs j ≡ None → IsTrue false ↔ ((j < 32) × IsFree (seen s) j)
-no_free s j w none = (λ t. absurd (cc), λ h. absurd (no_link s.outputs j w.output_links none h.0))

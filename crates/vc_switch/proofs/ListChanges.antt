@@ -1,5 +1,5 @@
 -- What a change of a switch's lists is to its steps.
-use Rattle.std.proofs.Common.{◌≡◌, ℕ, List, [], refl, sym, ap, ◌∙◌, subst, get_or, slice_get, slice_set, Option, Some, None, inl, inr}
+use Rattle.std.proofs.Common.{◌≡◌, ℕ, List, [], refl, sym, ap, ◌∙◌, subst, slice_get, slice_set, Option, Some, None, inl, inr}
 use Rattle.std.proofs.lemmas.Bool.{cases_eq}
 use Rattle.std.proofs.lemmas.Option.{slice_get_within}
 use mathlib.Core.Path.{fun_ext}
@@ -10,7 +10,7 @@ use Rattle.vc_switch.specs.State.{State, output_of, bound_at, source_at, ArePair
 use Rattle.vc_switch.specs.SwitchView.{seen, input_of, sent_of, sent_from, sender_of}
 use Rattle.vc_switch.specs.declared.link_in.LinkIn.{LinkIn}
 use Rattle.vc_switch.specs.declared.link_out.LinkOut.{LinkOut}
-use Rattle.vc_switch.proofs.ListWrites.{put_is, read_there, place-set_same, place-set_other, by_place-set}
+use Rattle.vc_switch.proofs.ListWrites.{put_is, place-set_same, place-set_other, by_place-set}
 
 -- the lists behind the value, and the link's number in the code
 pub told : (P : Switch → ℕ → Switch → Type 0) (o s : State) (k l : ℕ) (new : Switch) → o ≡ s → k ≡ l → P (seen o) k new → P (seen s) l new
@@ -83,9 +83,3 @@ seen-bound s l j x y p q paired here there source =
     ∙ sender-other s.inputs l y (slice_get s.outputs k)
     (λ e. (let z : Some k ≡ Some j = sym (paired.outs k l e) ∙ paired.outs j l source in let w : k ≡ j = cc in ne w))) in
     λ i. record { input = by_place-set input_of new_input s.inputs l y (slice_get_within s.inputs l x here) i; output = out i; lost = s.lost }
-
--- what is read of an input at its place is read of it in the state that is seen
-pub next_there : (s t : State) (j l n : ℕ) (a : LinkIn) (o : Option ℕ) → t ≡ s → j ≡ l → a ≡ get_or t.inputs j a → o ≡ slice_get a.got.passed n → (x : LinkIn) → slice_get s.inputs l ≡ Some x → slice_get x.got.passed n ≡ o
-next_there s t j l n a o same along read is x here =
-    let at = subst (λ i. slice_get t.inputs i ≡ Some x) (sym along) (subst (λ z. slice_get z.inputs l ≡ Some x) (sym same) here) in
-    ap (λ z. slice_get z.got.passed n) (read_there t.inputs j x a at read) ∙ sym is

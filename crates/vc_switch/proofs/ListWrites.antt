@@ -2,7 +2,7 @@
 use Rattle.std.proofs.Common.{◌≡◌, ℕ, zero, suc, List, [], ◌∷◌, refl, sym, ap, ◌∙◌, subst, arith, slice_get, slice_set, get_or, length, ◌<◌, ltb, if◌then◌else◌, true, false, vec_len, Vec, Global, Some, None, inl, inr, eq-eqb}
 use Rattle.std.proofs.lemmas.Bool.{cases_eq, ne_eqb, ltb-true, ltb-false}
 use Rattle.std.specs.List.{AllByRecursion}
-use Rattle.std.proofs.lemmas.Option.{get_or_from_slice_get, slice_get_read, slice_get_within, slice_get_past}
+use Rattle.std.proofs.lemmas.Option.{get_or_from_slice_get, slice_get_read, slice_get_past}
 use mathlib.Core.Path.{fun_ext}
 use Rattle.vc_packets.specs.Functions.{put, shown_or}
 
@@ -67,9 +67,6 @@ all-at P (y ∷ xs) (suc i) x h e = all-at P xs i x h.1 e
 -- a link's number is within a list of 32
 pub at_link : {X : Type 0} (v : Vec X Global) (j l : ℕ) → j ≡ l → l < 32 → length v.items ≡ 32 → j < vec_len v
 at_link v j l along within long = subst (λ n. j < n) (sym (v.ok.0 ∙ long)) (subst (λ i. i < 32) (sym along) within)
-
-pub at_some : {X : Type 0} (v : Vec X Global) (j : ℕ) (x : X) → slice_get v.items j ≡ Some x → j < vec_len v
-at_some v j x here = subst (λ n. j < n) (sym v.ok.0) (slice_get_within v.items j x here)
 
 -- what is sought by a number that may be past the end
 pub got : {X : Type 0} (xs ys : List X) (j i : ℕ) (x : X) → ys ≡ xs → j ≡ i → true ≡ ltb j (length ys) → x ≡ get_or ys j x → slice_get xs i ≡ Some x

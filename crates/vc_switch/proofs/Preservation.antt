@@ -27,10 +27,6 @@ pub kept : (s : State) (l n : ℕ) (x y : LinkIn) (outs : List LinkOut) → IsSw
     IsKept s (record s { inputs = slice_set s.inputs l y; outputs = outs; lost = n })
 kept s l n x y outs w here is = record { plan = refl; limit = limit_stays s.inputs l x y here (is.limit ∙ sym (link_in s l x w here).limit) }
 
--- where the input's limit stays
-pub kept_limit : (s : State) (l n : ℕ) (x y : LinkIn) (outs : List LinkOut) → slice_get s.inputs l ≡ Some x → y.got.limit ≡ x.got.limit → IsKept s (record s { inputs = slice_set s.inputs l y; outputs = outs; lost = n })
-kept_limit s l n x y outs here same = record { plan = refl; limit = limit_stays s.inputs l x y here same }
-
 -- an input has room for a header
 pub room_at : (s : State) (l : ℕ) (x : LinkIn) → IsSwitch s → slice_get s.inputs l ≡ Some x → 2 ≤ x.got.limit
 room_at s l x w here = subst (λ m. 2 ≤ m) (sym (link_in s l x w here).limit) w.room

@@ -1,5 +1,5 @@
 -- How a packet's tokens leave, by what changes in a switch's lists.
-use Rattle.std.proofs.Common.{◌≡◌, ℕ, zero, suc, ◌+◌, ◌-◌, ◌<◌, ◌≤◌, Bool, true, false, IsTrue, ◌↔◌, ◌||◌, List, [], ◌∷◌, ◌++◌, length, take, drop, refl, sym, ap, ◌∙◌, subst, arith, slice_get, slice_set, get_or, is_some, length-append, Option, Some, None}
+use Rattle.std.proofs.Common.{◌≡◌, ℕ, zero, suc, ◌+◌, ◌-◌, ◌<◌, ◌≤◌, Bool, true, false, IsTrue, ◌↔◌, ◌||◌, List, [], ◌∷◌, ◌++◌, length, take, drop, refl, sym, ap, ◌∙◌, subst, arith, slice_get, slice_set, is_some, length-append, Option, Some, None}
 use Rattle.std.proofs.Math.Seq.{take-suc, drop-cons}
 use Rattle.std.proofs.lemmas.List.{length-set, length-drop, length-take-le, take-append-drop}
 use Rattle.std.proofs.lemmas.Option.{slice_get_within, slice_get-get_or, get_or_from_slice_get}
@@ -9,8 +9,8 @@ use Rattle.vc_tokens.specs.Tokens.{Token, Byte, EndMark}
 use Rattle.vc_credit.specs.Ends.{Sender, Puts, puts_byte, puts_mark}
 use Rattle.vc_switch.specs.Forward.{SwitchPlan}
 use Rattle.vc_switch.specs.Waiting.{Wormhole}
-use Rattle.vc_switch.specs.Switch.{Input, Switch, BodyLeaves, Sends}
-use Rattle.vc_switch.specs.Able.{CanPut, IsFree}
+use Rattle.vc_switch.specs.Switch.{Input, BodyLeaves, Sends}
+use Rattle.vc_switch.specs.Able.{CanPut}
 use Rattle.vc_switch.specs.Private.Front.{start_of}
 use Rattle.vc_switch.specs.State.{State, IsSwitch, IsLinkIn, IsUnderWay, MayBeBound, ArePaired, bound_at, source_at, output_of, plan_of, limit_of}
 use Rattle.vc_switch.specs.SwitchView.{seen, input_of, sent_by, sent_of, sent_from, sender_of}
@@ -20,7 +20,7 @@ use Rattle.vc_switch.specs.declared.link_in.Bound.{Bound}
 use Rattle.vc_switch.specs.declared.link_out.LinkOut.{LinkOut}
 use Rattle.vc_switch.proofs.Fronts.{gone}
 use Rattle.vc_switch.proofs.Pairs.{paired_freed}
-use Rattle.vc_switch.proofs.ListWrites.{put_back, place-set_same, read_there}
+use Rattle.vc_switch.proofs.ListWrites.{put_back, place-set_same}
 use Rattle.vc_switch.proofs.ListChanges.{input_at, output_at, bound_is, seen-bound}
 use Rattle.vc_switch.proofs.Preservation.{link_in, switch_with, bound-set, source-set}
 
@@ -70,13 +70,6 @@ output_is s j l b w t =
 
 pub way_of : (s : State) (j l : ℕ) (b : Bound) → IsSwitch s → (t : IsBoundTo s j l b) → IsUnderWay (plan_of s) t.input.got.passed b
 way_of s j l b w t = subst (MayBeBound (plan_of s) t.input.got.passed) t.bound (link_in s l t.input w t.here).bound
-
-pub bound_there : (s o : State) (k j l : ℕ) (b : Bound) → o ≡ s → k ≡ l → (t : IsBoundTo s j l b) → slice_get o.inputs k ≡ Some t.input
-bound_there s o k j l b shows same t = subst (λ i. slice_get o.inputs i ≡ Some t.input) (sym same) (subst (λ z. slice_get z.inputs l ≡ Some t.input) (sym shows) t.here)
-
--- no more was put than has come
-pub next_within : (s o : State) (k j l : ℕ) (b : Bound) (a : LinkIn) → IsSwitch s → o ≡ s → k ≡ l → IsBoundTo s j l b → a ≡ get_or o.inputs k a → b.from + b.sent ≤ length a.got.passed
-next_within s o k j l b a w shows same t is = subst (λ z. b.from + b.sent ≤ length z.got.passed) (read_there o.inputs k t.input a (bound_there s o k j l b shows same t) is) (way_of s j l b w t).within
 
 leaves_at : (s : State) (j l : ℕ) (b : Bound) → IsSwitch s → (t : IsBoundTo s j l b) → BodyLeaves (plan_of s) t.input.got.passed j (drop b.from t.input.got.passed)
 leaves_at s j l b w t = subst (λ z. BodyLeaves (plan_of s) t.input.got.passed z (drop b.from t.input.got.passed)) (output_is s j l b w t) (way_of s j l b w t).leaves
@@ -135,10 +128,6 @@ can_there s j l b p w t there can =
 
 pub nothing_next : (x : LinkIn) (b : Bound) → slice_get x.got.passed (b.from + b.sent) ≡ None → x.mark ≡ None → has_next x b ≡ false
 nothing_next x b next mark = (λ i. is_some (next i) || is_some (mark i))
-
--- a free output puts nothing
-pub free_puts : (plan : SwitchPlan) (s : Switch) (j : ℕ) → IsFree s j → CanPut plan s j → ⊥
-free_puts plan s j free can = free can.sends.link can.sends.bound
 
 -- A byte goes out.
 

@@ -15,7 +15,7 @@ use Rattle.vc_tokens.specs.declared.token.Token.TheVariants as sent
 use Rattle.vc_switch.specs.Forward.{SwitchPlan}
 use Rattle.vc_switch.specs.Waiting.{Wormhole}
 use Rattle.vc_switch.specs.Switch.{Switch, Input, new_switch, set_input, with_header, passing, BodyLeaves, Comes, due, not_due, Passes, passes_byte, drops_byte, passes_mark, loses, HasGroup, Routes, Sends, SendsFct}
-use Rattle.vc_switch.specs.Able.{CanPass, CanLeave, CanPut, CanGrant, IsFree}
+use Rattle.vc_switch.specs.Able.{CanPass, CanLeave, CanGrant, IsFree}
 use Rattle.vc_switch.specs.Private.Ready.{IsReady, Looks, Tells, Waits}
 use Rattle.vc_switch.specs.SwitchView.{seen, IsKept}
 use Rattle.vc_switch.specs.State.{State, IsSwitch, plan_of, limit_of}
@@ -262,10 +262,6 @@ leaving_long plan b o d h = let g = gone plan b o d h in front_long plan.table b
 -- bytes are there of a packet that may leave
 pub leaving_waits : (plan : SwitchPlan) (s : Switch) (l o : ℕ) → CanLeave plan s l o → Waits (s.input l)
 leaving_waits plan s l o h = (h.unbound, leaving_long plan (s.input l).got o h.body h.leaves)
-
--- an output on which a token can be put has a packet
-pub putting_bound : (plan : SwitchPlan) (s : Switch) (o : ℕ) → CanPut plan s o → IsFree s o → ⊥
-putting_bound plan s o h free = free h.sends.link h.sends.bound
 
 pub ready_first : (s : State) (r : Ready) → seen s ≡ new_switch → r.passes ≡ 0 → r.puts ≡ 0 → r.grants ≡ 4294967295 → IsReady s r
 ready_first s r e a c d = record {

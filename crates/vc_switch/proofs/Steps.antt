@@ -9,7 +9,7 @@ use Rattle.vc_packets.specs.declared.mark.Mark.{Mark}
 use Rattle.vc_credit.specs.Ends.{Receiver, Grants, credited, received, Passes as PassesOn}
 use Rattle.vc_credit.specs.Laws.{NeedsPlace}
 use Rattle.vc_switch.specs.Able.{EachTokenComes}
-use Rattle.vc_switch.specs.Forward.{SwitchPlan, IsDrawn, least_of}
+use Rattle.vc_switch.specs.Forward.{SwitchPlan, least_of}
 use Rattle.vc_switch.specs.Switch.{Input, Switch, set_input, with_token, Comes, due, not_due, drawn, headed, with_header, passing, Passes, passes_byte, drops_byte, passes_mark, loses, BodyLeaves, HasGroup, SendsFct}
 use Rattle.vc_switch.specs.Front.{front_of}
 use Rattle.vc_switch.specs.Private.Front.{HasFront}
@@ -123,11 +123,6 @@ link_granted plan most x y w grants is =
 -- the header that a word draws at a link
 pub header_at : (s : State) (l word : ℕ) (r : Option RandomRange) → slice_get s.ranges l ≡ Some r → drawn (interval_of r) word ≡ drawn ((plan_of s).random l) word
 header_at s l word r here = ap (λ z. drawn z word) (sym (ap (shown_or None interval_of) here))
-
--- the least word draws a header of the range
-pub least_drawn : (r : Option RandomRange) → IsRange r → IsDrawn (interval_of r) (drawn (interval_of r) 0)
-least_drawn None is = tt
-least_drawn (Some r) is = (omega arith, omega arith)
 
 -- and it is the least
 pub least_is : (r : Option RandomRange) → IsRange r → drawn (interval_of r) 0 ≡ least_of (interval_of r)

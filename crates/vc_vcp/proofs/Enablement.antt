@@ -12,7 +12,7 @@ use Rattle.vc_packets.specs.declared.mark.Mark.{Mark}
 use Rattle.vc_blocks.specs.Halves.{load_of, ends_message}
 use Rattle.vc_vcp.specs.declared.output.Output.{Output}
 use Rattle.vc_vcp.specs.declared.input.Input.{Input}
-use Rattle.vc_vcp.specs.Able.{CanOffer, CanWant, CanFetch, CanStop, CanPut, CanGrant, IsReady}
+use Rattle.vc_vcp.specs.Able.{CanOffer, CanWant, CanFetch, CanStop, CanPut, CanGrant}
 use Rattle.vc_vcp.specs.Carrier.{Carrier, set_in, set_out, enqueue}
 use Rattle.vc_vcp.specs.Names.{named}
 use Rattle.vc_packets.specs.Functions.{shown_or}
@@ -191,9 +191,6 @@ not_iff false v e = (λ t. sym e, λ f. refl)
 pub both_iff : (v b w : Bool) → v ≡ false → b ≡ w → IsTrue (not b) ↔ ((v ≡ false) × (w ≡ false))
 both_iff v b w is e = (λ t. (is, (not_iff b w e).0 t), λ h. (not_iff b w e).1 h.1)
 
-pub neither_iff : (b v w : Bool) → b ≡ true → b ≡ v → IsTrue (not b) ↔ ((v ≡ false) × (w ≡ false))
-neither_iff b v w is e = (λ t. (let f = (not_iff b v e).0 t in absurd (cc)), λ h. (not_iff b v e).1 h.0)
-
 pub none_iff : {X : Type 0} (b : Bool) (xs : List X) → (IsTrue b ↔ (xs ≡ [])) → IsTrue (not b) ↔ (xs ≢ [])
 none_iff true xs iff = (λ t. absurd (cc), λ some. absurd (some (iff.0 refl)))
 none_iff false xs iff = (λ t none. (let f : false ≡ true = iff.1 none in absurd (cc)), λ some. refl)
@@ -212,10 +209,6 @@ want_iff s c a b w here iff = (
   λ can. (let i = wants_open s c can in
       let same = same_some (named (λ x. x.chan) c s.inputs) i.input a i.here here in iff.1 (subst (λ z. z.half.wants ≡ false) same i.idle, subst (λ z. z.half.stopped ≡ false) same i.not_stopped)),
 )
-
-pub open_iff : (s : State) (c : ℕ) (a : Input) (b : Bool) → named (λ x. x.chan) c s.inputs ≡ Some a → (IsTrue b ↔ ((a.half.wants ≡ false) × (a.half.stopped ≡ false))) → IsTrue b ↔ IsOpen s c
-open_iff s c a b here iff =
-    (λ t. record { input = a; here = here; idle = (iff.0 t).0; not_stopped = (iff.0 t).1 }, λ i. (let same = same_some (named (λ x. x.chan) c s.inputs) i.input a i.here here in iff.1 (subst (λ z. z.half.wants ≡ false) same i.idle, subst (λ z. z.half.stopped ≡ false) same i.not_stopped)))
 
 pub fetch_iff : (s : State) (c : ℕ) (a : Input) (b : Bool) → IsInput a → named (λ x. x.chan) c s.inputs ≡ Some a → (IsTrue b ↔ ((a.half.held ≢ None) × (a.half.stopped ≡ false))) → IsOpen s c →
     IsTrue b ↔ CanFetch (ends_of s) (carrier_of s) c
@@ -246,27 +239,3 @@ not_none o x none some = let e : None ≡ Some x = sym none ∙ some in cc
 
 pub idle_none : (s : State) (c : ℕ) → named (λ x. x.chan) c s.outputs ≡ None → IsTrue false ↔ IsIdle s c
 idle_none s c none = never_iff (λ (i : IsIdle s c). not_none (named (λ x. x.chan) c s.outputs) i.output none i.here)
-
-pub offer_none : (s : State) (c : ℕ) (m : List ℕ) → named (λ x. x.chan) c s.outputs ≡ None → IsTrue false ↔ CanOffer (ends_of s) (carrier_of s) c m
-offer_none s c m none = never_iff (λ (can : CanOffer (ends_of s) (carrier_of s) c m). (let i = offers_idle s c m can in not_none (named (λ x. x.chan) c s.outputs) i.output none i.here))
-
-pub open_none : (s : State) (c : ℕ) → named (λ x. x.chan) c s.inputs ≡ None → IsTrue false ↔ IsOpen s c
-open_none s c none = never_iff (λ (i : IsOpen s c). not_none (named (λ x. x.chan) c s.inputs) i.input none i.here)
-
-pub want_none : (s : State) (c : ℕ) → named (λ x. x.chan) c s.inputs ≡ None → IsTrue false ↔ CanWant (ends_of s) (carrier_of s) c
-want_none s c none = never_iff (λ (can : CanWant (ends_of s) (carrier_of s) c). (let i = wants_open s c can in not_none (named (λ x. x.chan) c s.inputs) i.input none i.here))
-
-pub unwanted_none : (s : State) (c : ℕ) → named (λ x. x.chan) c s.inputs ≡ None → IsTrue false ↔ IsUnwanted s c
-unwanted_none s c none = never_iff (λ (i : IsUnwanted s c). not_none (named (λ x. x.chan) c s.inputs) i.input none i.here)
-
-pub stop_none : (s : State) (c : ℕ) → named (λ x. x.chan) c s.inputs ≡ None → IsTrue false ↔ CanStop (ends_of s) (carrier_of s) c
-stop_none s c none = never_iff (λ (can : CanStop (ends_of s) (carrier_of s) c). (let i = stops_unwanted s c can in not_none (named (λ x. x.chan) c s.inputs) i.input none i.here))
-
-pub ready_none : (s : State) (c : ℕ) → named (λ x. x.chan) c s.inputs ≡ None → IsTrue false ↔ IsReady ((carrier_of s).into c)
-ready_none s c none = subst (λ z. IsTrue false ↔ IsReady (shown_or no_input in_half z)) (sym none) (never_iff (λ (r : IsReady no_input). r.held refl))
-
-pub fetch_none : (s : State) (c : ℕ) → named (λ x. x.chan) c s.inputs ≡ None → IsOpen s c → IsTrue false ↔ CanFetch (ends_of s) (carrier_of s) c
-fetch_none s c none is = absurd (not_none (named (λ x. x.chan) c s.inputs) is.input none is.here)
-
-pub holds_none : IsTrue false ↔ (no_input.held ≢ None)
-holds_none = never_iff (λ (some : no_input.held ≢ None). some refl)

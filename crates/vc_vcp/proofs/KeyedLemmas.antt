@@ -1,6 +1,6 @@
 -- A change of one element of a list of named elements is a change at its name.
 use Rattle.std.proofs.Common.{◌≡◌, ℕ, zero, suc, Bool, true, false, List, [], ◌∷◌, refl, sym, ap, subst, ◌∙◌, arith, slice_get, slice_set, get_or, drop, length, ◌<◌, ◌==◌, nat_lt, if◌then◌else◌, Option, Some, None, inl, inr, eq-eqb}
-use Rattle.std.specs.Prelude.{IfSome, MatchOption}
+use Rattle.std.specs.Prelude.{MatchOption}
 use Rattle.std.specs.List.{find, position, position_or_len}
 use Rattle.std.proofs.lemmas.Bool.{cases_eq, ne_eqb}
 use Rattle.std.proofs.lemmas.Bool.Decides.{nat_tests}
@@ -88,16 +88,6 @@ first_finds name k xs found is = subst Finds (sym is) (go (nat_lt n (length xs))
     go : (b : Bool) → nat_lt n (length xs) ≡ b → Finds (if b then Some n else None)
     go true h = sym there
     go false h = there ∙ slice_get_past xs n (grind (arith, nat_tests))
-
-pub first_within : {X : Type 0} (test : X → Bool) (xs : List X) (found : Option ℕ) → found ≡ position test xs → IfSome found (λ i. i < length xs)
-first_within test xs found is = subst (λ (o : Option ℕ). IfSome o (λ i. i < length xs)) (sym is) (go (nat_lt n (length xs)) refl)
-  where
-    n : ℕ
-    n = position_or_len test xs
-
-    go : (b : Bool) → nat_lt n (length xs) ≡ b → IfSome (if b then Some n else None) (λ i. i < length xs)
-    go true h = grind (arith, nat_tests)
-    go false h = tt
 
 -- a search that has passed i elements, and finds the name there
 pub found_at : {X : Type 0} (name : X → ℕ) (k : ℕ) (xs : List X) (i : ℕ) (x : X) → i < length xs → x ≡ get_or xs i x → name x ≡ k → named name k (drop i xs) ≡ named name k xs → slice_get xs i ≡ named name k xs

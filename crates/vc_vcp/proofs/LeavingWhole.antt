@@ -1,5 +1,5 @@
 -- A packet leaves its queue whole.
-use Rattle.std.proofs.Common.{◌≡◌, ℕ, ◌↔◌, [], ◌∷◌, refl, sym, ap, ◌∙◌, subst, slice_get, slice_set, Option, Some, None, IsSome, IfSome}
+use Rattle.std.proofs.Common.{◌≡◌, ℕ, ◌↔◌, [], refl, sym, ap, ◌∙◌, subst, slice_get, slice_set, Option, Some, None, IsSome, IfSome}
 use Rattle.std.proofs.lemmas.Option.{slice_get_within}
 use Rattle.vc_packets.specs.declared.packet.Packet.{Packet}
 use Rattle.vc_packets.specs.Functions.{put, shown_or}
@@ -10,7 +10,6 @@ use Rattle.vc_vcp.specs.Private.LinkOut.{FrontLeavesWhole, HasNoneWhole}
 use Rattle.vc_vcp.specs.Links.{LeavesWhole}
 use Rattle.vc_vcp.specs.VcpView.{seen, carrier_of, link_of}
 use Rattle.vc_vcp.specs.State.{State}
-use Rattle.vc_vcp.proofs.Beyond.{queue_past}
 use Rattle.vc_vcp.proofs.ListWrites.{put_back, set_back}
 use Rattle.vc_vcp.proofs.ListChanges.{seen-out}
 
@@ -39,9 +38,6 @@ whole_iff s l x y (Some p) here takes none = (λ t. record { packet = p; new = _
 pub whole_if : (s : State) (l : ℕ) (x y : Sending) (o : Option Packet) → slice_get s.outs l ≡ Some x → IfSome o (λ p. FrontLeavesWhole x p y) → IfSome o (λ p. LeavesWhole (seen s) l p (seen (record s { outs = slice_set s.outs l y })))
 whole_if s l x y None here takes = tt
 whole_if s l x y (Some p) here takes = leaves_whole s l x y p here takes
-
-pub none_whole : (s : State) (l : ℕ) → slice_get s.outs l ≡ None → IsSome {T = Packet} None ↔ CanLeaveWhole (seen s) l
-none_whole s l none = (λ t. absurd (cc), λ can. (let e : [] ≡ can.packet ∷ can.leaves.rest = sym (queue_past s l none) ∙ can.leaves.front in absurd (cc)))
 
 pub same_outs : (s : State) (l : ℕ) (x y : Sending) → slice_get s.outs l ≡ Some x → y ≡ x → record s { outs = slice_set s.outs l y } ≡ s
 same_outs s l x y here same = ap (λ z. record s { outs = z }) (set_back s.outs l x y here same)

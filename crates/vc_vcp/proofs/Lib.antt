@@ -14,6 +14,5 @@ pub mod Passes
 pub mod Enablement
 pub mod Arrivals
 pub mod HintNotes
-pub mod Holds
 pub mod Beyond
 pub mod LeavingWhole

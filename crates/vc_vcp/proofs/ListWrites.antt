@@ -52,10 +52,6 @@ set_back [] i x y here same = refl
 set_back (a ∷ more) zero x y here same = let there : a ≡ x = cc in ap (λ z. z ∷ more) (same ∙ sym there)
 set_back (a ∷ more) (suc i) x y here same = ap (λ zs. a ∷ zs) (set_back more i x y here same)
 
--- what was asked for by its name is what stands at the place that was found in the same list
-pub asked_is : {X : Type 0} (name : X → ℕ) (k : ℕ) (ys xs : List X) (i : ℕ) (x y : X) → ys ≡ xs → slice_get ys i ≡ named name k ys → named name k xs ≡ Some x → slice_get xs i ≡ Some y → x ≡ y
-asked_is name k ys xs i x y same found asked here = same_read xs i x y (subst (λ z. slice_get z i ≡ named name k z) same found ∙ asked) here
-
 -- what was asked for is found
 pub asked_found : {X : Type 0} (name : X → ℕ) (k : ℕ) (ys xs : List X) (x : X) → ys ≡ xs → named name k ys ≡ None → named name k xs ≡ Some x → ⊥
 asked_found name k ys xs x same none asked = let e : None ≡ Some x = sym (subst (λ z. named name k z ≡ None) same none) ∙ asked in cc
@@ -63,7 +59,3 @@ asked_found name k ys xs x same none asked = let e : None ≡ Some x = sym (subs
 pub on_err : {X E A B C : Type 0} (r : Result X E) → (A → B → C) → OnErr r A → OnErr r B → OnErr r C
 on_err (Ok x) f h k = h
 on_err (Err e) f h k = f h k
-
-pub always_on_err : {X E A : Type 0} (r : Result X E) → A → OnErr r A
-always_on_err (Ok x) h = tt
-always_on_err (Err e) h = h

@@ -7,7 +7,7 @@ use Rattle.vc_packets.specs.Counters.{one_more}
 use Rattle.vc_packets.specs.Functions.{put, shown_or}
 use Rattle.vc_packets.specs.declared.mark.Mark.{Mark}
 use Rattle.vc_tokens.specs.Tokens.{Token, Byte, Fct, EndMark}
-use Rattle.vc_credit.specs.Ends.{Receiver, Grants, IsFront, new_receiver, received, Passes as PassesOn}
+use Rattle.vc_credit.specs.Ends.{Receiver, IsFront, new_receiver, Passes as PassesOn}
 use Rattle.vc_credit.specs.Laws.{NeedsPlace}
 use Rattle.vc_vcp.specs.LinkIn.{Receiving}
 use Rattle.vc_vcp.specs.LinkOut.{Sending}
@@ -97,10 +97,6 @@ no_fcts s l x w here = (all-at (IsLinkIn (limit_of s.ins)) s.ins l x w.ins here)
 pub wired_passing : (s : State) (l : ℕ) (x y : Receiving) (k : Token) → IsWired s → slice_get s.ins l ≡ Some x → PassesOn x.receiver k y.receiver → y.limit ≡ x.limit → IsWired (record s { ins = slice_set s.ins l y })
 wired_passing s l x y k w here h same = wired_ins s l x y w here (subst (AllByRecursion (λ k. k ≢ Fct)) h.front (no_fcts s l x w here)).1 same
 
--- where places are granted
-pub wired_granting : (s : State) (l : ℕ) (x y : Receiving) → IsWired s → slice_get s.ins l ≡ Some x → Grants x.receiver y.receiver → y ≡ record x { receiver = y.receiver } → IsWired (record s { ins = slice_set s.ins l y })
-wired_granting s l x y w here h rest = wired_ins s l x y w here (subst (AllByRecursion (λ k. k ≢ Fct)) (sym (ap (λ r. r.buffer) h.after)) (no_fcts s l x w here)) (ap (λ z. z.limit) rest)
-
 none_more : (ks : List Token) (k : Token) → AllByRecursion (λ j. j ≢ Fct) ks → k ≢ Fct → AllByRecursion (λ j. j ≢ Fct) (ks ++ k ∷ [])
 none_more [] k all one = (one, tt)
 none_more (j ∷ ks) k all one = (all.0, none_more ks k all.1 one)
@@ -109,11 +105,6 @@ placed : (k : Token) → NeedsPlace k → k ≢ Fct
 placed Fct needs same = absurd (cc)
 placed (Byte b) needs same = absurd (cc)
 placed (EndMark m) needs same = absurd (cc)
-
--- where a token comes
-pub wired_coming : (s : State) (l : ℕ) (x y : Receiving) (k : Token) → IsWired s → slice_get s.ins l ≡ Some x → NeedsPlace k → y ≡ record x { receiver = received x.receiver k } → IsWired (record s { ins = slice_set s.ins l y })
-wired_coming s l x y k w here needs is =
-    wired_ins s l x y w here (subst (λ z. AllByRecursion (λ k. k ≢ Fct) z.receiver.buffer) (sym is) (none_more x.receiver.buffer k (no_fcts s l x w here) (placed k needs))) (ap (λ z. z.limit) is)
 
 -- what passes is the front
 pub front_at : (s n : State) (l : ℕ) (z : Receiving) (k : Token) → link_of n ≡ link_of s → slice_get n.ins l ≡ Some z → IsFront (link_of s l).receiver k → IsFront z.receiver k
@@ -124,18 +115,11 @@ pub ins_read : (s t : State) (j l : ℕ) (x : Receiving) → t ≡ s → j ≡ l
 ins_read s t j l x same along four within read =
     subst (λ z. slice_get z.ins l ≡ Some x) same (subst (λ i. slice_get t.ins i ≡ Some x) along (slice_get_read t.ins 4 j x (sym four) (subst (λ i. i < 4) (sym along) within) read))
 
-pub front_seen : (s : State) (l : ℕ) (x : Receiving) (k : Token) → slice_get s.ins l ≡ Some x → IsFront x.receiver k → IsFront (link_of s l).receiver k
-front_seen s l x k here front = (front.0, ap (λ z. z.buffer) (receiver_at s l x here) ∙ front.1)
-
 pub never_empty : (r : Receiver) (k : Token) → IsFront r k → r.buffer ≡ [] → ⊥
 never_empty r k front none = let e : k ∷ front.0 ≡ [] = sym front.1 ∙ none in cc
 
 pub mark_or_byte : (r : Receiver) (m : Mark) (b : ℕ) → IsFront r (EndMark m) → IsFront r (Byte b) → ⊥
 mark_or_byte r m b mark byte = let e : EndMark m ∷ mark.0 ≡ Byte b ∷ byte.0 = sym mark.1 ∙ byte.1 in cc
-
--- no flow control token is at the front
-pub fct_never : (most : ℕ) (x : Receiving) → IsLinkIn most x → IsFront x.receiver Fct → ⊥
-fct_never most x is front = (subst (AllByRecursion (λ k. k ≢ Fct)) front.1 is.no_fct).0 refl
 
 -- a link's sending end, likewise
 pub outs_read : (s t : State) (j l : ℕ) (x : Sending) → t ≡ s → j ≡ l → length t.outs ≡ 4 → l < 4 → x ≡ get_or t.outs j x → slice_get s.outs l ≡ Some x
@@ -165,9 +149,3 @@ less_grant s t l may same four = subst (λ n. l < n) (subst (λ z. length z.ins 
 
 pub grant_there : (s t : State) (j l : ℕ) (x : Receiving) (may : MayGrant s l) → t ≡ s → j ≡ l → length t.ins ≡ 4 → x ≡ get_or t.ins j x → may.into ≡ x
 grant_there s t j l x may same along four read = same_read s.ins l may.into x may.here (ins_read s t j l x same along four (less_grant s t l may same four) read)
-
-pub kept_outs : (s : State) (outs : List Sending) → IsKept s (record s { outs = outs })
-kept_outs s outs = record { ends = refl; limit = refl }
-
-pub kept_strays : (s : State) (n : ℕ) → IsKept s (record s { strays = n })
-kept_strays s n = record { ends = refl; limit = refl }

@@ -19,10 +19,9 @@ use Rattle.vc_occam.specs.declared.frame.Task.{Task}
 use Rattle.vc_occam.specs.declared.frame.Turn.{Turn}
 use Rattle.vc_occam.specs.declared.outcome.Outcome.TheVariants.{Quiet}
 use Rattle.vc_process.specs.Terms.{as_test, exp, store}
-use Rattle.vc_occam.specs.Frames.{all_sound, bodies, branching, counting, guarded, guarding, is_sound, looping, plans_of, seq, view}
+use Rattle.vc_occam.specs.Frames.{all_sound, bodies, branching, counting, guarded, guarding, is_sound, looping, seq, view}
 use Rattle.vc_occam.specs.Private.Frames.{CanGo, HasNext, HasTurned, Went, counting_shape, place_with, seen_branch, seen_guard, shown, task_views, unstopped, views}
-use Rattle.vc_occam.specs.Private.Sites.{PartsInPreorder}
-use Rattle.vc_occam.proofs.Abreast.{par_goes, par_part, par_preorder, par_went, part_there, tasks_still_sound}
+use Rattle.vc_occam.proofs.Abreast.{par_goes, par_part, par_went, part_there, tasks_still_sound}
 use Rattle.vc_occam.proofs.SiteActs.{frame_can, index_there, rolled_went, sound_as}
 use Rattle.vc_occam.proofs.Bodies.{branch_part, branch_went, count_goes, count_part, count_went, guard_part, guard_went, turn_ended, turn_goes, turn_part}
 use Rattle.vc_occam.proofs.PartSteps.{seq_goes, seq_part, seq_sound, seq_went}
@@ -312,14 +311,6 @@ frame::Frame::go-returns-in-Par-clause-went g t c =
     let i = (out-Frame f).site in
     let can = frame_can step f (run.Par c.in-Par.par) c.args.vars.now.items c.requires.can c.in-Par.is in
     rolled_went step f (run.Par c.in-Par.par) (run.Par c.go.new.self) c.args.vars.now.items c.go.result (store c.go.new.vars.items) c.requires.can c.in-Par.is (c.go.ensures.went i can)
-
-pub go::Par+Frame::go-part_with-place-requires : goal.go::Par+Frame::go-part_with-place-requires
-go::Par+Frame::go-part_with-place-requires g t c =
-    let step = g.S.SiteStep.stands_for c.args.step.now in
-    let ts = c.args.self.now.tasks.items in
-    let i = c.requires.can.0 in
-    let can = c.requires.can.1 in
-    subst (λ (us : List (Task Frame)). PartsInPreorder (plans_of (task_views us))) (sym c.as_slice.ensures.value) (par_preorder step i ts c.args.vars.now.items can)
 
 pub go::Par+Frame::go-index_mut-requires : goal.go::Par+Frame::go-index_mut-requires
 go::Par+Frame::go-index_mut-requires g t c =

@@ -1,7 +1,7 @@
 use Rattle.std.proofs.Common.{◌≡◌, ◌∙◌, ◌<◌, ap, sym, add-one, arith, length, map, rules, ◌≤◌, false, get_or, vec_len}
 use Rattle.std.proofs.lemmas.Bool.{and_parts}
 use Rattle.std.proofs.lemmas.List.{length-map}
-use Rattle.vc_occam.specs.Frames.{begun, is_sound, outcome_of, plan_of, view_of}
+use Rattle.vc_occam.specs.Frames.{begun, outcome_of, plan_of, view_of}
 use Rattle.vc_occam.specs.Private.Frames.{seen_task, shape, task_views, unstopped}
 use Rattle.vc_occam.specs.declared.frame.Frame.TheViews.{the_lemmas, out-Frame, out-roll-Frame}
 use Rattle.vc_occam.specs.declared.frame.Frame.TheOpen.{Frame-F}
@@ -9,14 +9,8 @@ use Rattle.vc_occam.specs.declared.frame.Frame.{Frame}
 use Rattle.vc_occam.specs.Remains.{begin}
 use Rattle.vc_occam.proofs.Views.{view_roll}
 use Rattle.vc_occam.proofs.AtItself.{frame_sound}
-use Rattle.vc_occam.proofs.Starts.{begun_more, begun_to, begun_whole, par_begins, par_begins_with, plan_out, seq_begins, seq_begins_with, seq_has_first, task_begun, task_sound, view_sound}
+use Rattle.vc_occam.proofs.Starts.{begun_more, begun_to, begun_whole, par_begins, plan_out, seq_begins_with, task_begun, task_sound}
 use Rattle.vc_occam.proofs.frame.+start.Goals as goal
-
-pub Construct+Frame::start-start-requires : goal.Construct+Frame::start-start-requires
-Construct+Frame::start-start-requires t c = (search (rules, the_lemmas), ap (λ x. is_sound (shape x)) (sym c.in-Seq.is) ∙ c.requires.sound)
-
-pub Construct+Frame::start-start-requires-in-Par : goal.Construct+Frame::start-start-requires-in-Par
-Construct+Frame::start-start-requires-in-Par t c = (search (rules, the_lemmas), ap (λ x. is_sound (shape x)) (sym c.in-Par.is) ∙ c.requires.sound)
 
 pub Frame::start-start-requires : goal.Frame::start-start-requires
 Frame::start-start-requires t c = (search (rules, the_lemmas), simp the_lemmas (frame_sound c.args.self.now c.requires.sound))
@@ -33,23 +27,6 @@ Frame::start-returns-clause-outcome t c =
     let o = out-Frame c.args.self.now in
     let b : c.start.result ≡ outcome_of (begin (plan_of o.site (shape o.construct))) = simp the_lemmas at c.start.ensures.outcome in
     b ∙ ap (λ p. outcome_of (begin p)) (sym (plan_out c.args.self.now))
-
-pub Seq+Frame::start-index_mut-requires : goal.Seq+Frame::start-index_mut-requires
-Seq+Frame::start-index_mut-requires t c =
-    let v = c.args.self.now.parts in
-    let e : vec_len v ≡ length v.items = v.ok.0 in
-    omega (arith, seq_has_first c.args.self.now.at v.items c.requires.sound)
-
-pub Seq+Frame::start-start-requires : goal.Seq+Frame::start-start-requires
-Seq+Frame::start-start-requires t c =
-    let fs = c.args.self.now.parts.items in
-    let l : 0 < length fs = seq_has_first c.args.self.now.at fs c.requires.sound in
-    (search (rules, the_lemmas), view_sound 0 fs c.index_mut.result.now l c.index_mut.ensures.value (and_parts _ _ c.requires.sound).1)
-
-pub Seq+Frame::start-returns-clause-begun : goal.Seq+Frame::start-returns-clause-begun
-Seq+Frame::start-returns-clause-begun t c =
-    let s = c.args.self.now in
-    λ i. seq_begins i s.at s.parts.items c.index_mut.result.now c.start.new.self c.requires.sound c.index_mut.ensures.value c.start.ensures.begun
 
 pub Seq+Frame::start-returns-clause-outcome : goal.Seq+Frame::start-returns-clause-outcome
 Seq+Frame::start-returns-clause-outcome t c =
@@ -73,9 +50,6 @@ Par+Frame::start-returns-clause-begun t c =
     let e : vec_len c.args.self.now.tasks ≡ length ts = c.args.self.now.tasks.ok.0 in
     let l : length (task_views ts) ≤ x.place = simp length-map (omega (arith, c.len-place-end.ensures, c.loop-place-test.false)) in
     λ i. par_begins i (map seen_task ts) (map seen_task x.self.tasks.items) c.requires.sound (x.invariant.1 ∙ begun_whole x.place (task_views ts) l)
-
-pub Par+Frame::start-returns-clause-outcome : goal.Par+Frame::start-returns-clause-outcome
-Par+Frame::start-returns-clause-outcome t c = λ i. sym (par_begins_with i (map seen_task c.args.self.now.tasks.items) c.requires.sound)
 
 pub Par+Frame::start-loop-place-preserved : goal.Par+Frame::start-loop-place-preserved
 Par+Frame::start-loop-place-preserved t c =

@@ -1,10 +1,7 @@
-use Rattle.std.proofs.Common.{◌∙◌, inl, inr, sym, refl}
+use Rattle.std.proofs.Common.{◌∙◌, inr, sym, refl}
 use Rattle.std.proofs.lemmas.Bool.{false≢true}
 use Rattle.vc_labels.proofs.Tables.{faultless_are_lawful}
 use Rattle.vc_plan.proofs.checker.fault_of_switch.Goals as goal
-
-pub returns-in-Some : goal.returns-in-Some
-returns-in-Some c = inl (rw c.as_slice.ensures at (sym c.fault_of_rows.ensures ∙ c.in-Some.is))
 
 pub returns-then-are_wired : goal.returns-then-are_wired
 returns-then-are_wired c = record {

@@ -1,6 +1,5 @@
 use Rattle.std.proofs.Common.{◌≡◌, ◌<◌, length, get_or, arith, ap}
 use Rattle.vc_plan.specs.Accepted.{IsLawfulSwitch}
-use Rattle.vc_plan.proofs.SmallPlaces.{in-byte}
 use Rattle.vc_plan.proofs.Indices.{there-at, each-more, each-all}
 use Rattle.vc_plan.proofs.checker.find_table.Goals as goal
 use Rattle.vc_plan.proofs.checker.find_table.Goals.{After-fault_of_switch}
@@ -31,6 +30,3 @@ pub returns : goal.returns
 returns c =
     let l = ap length c.as_slice-plan-items.ensures in
     each-all (λ k plan. IsLawfulSwitch c.args.net.now k plan) c.args.net.now.switches c.loop-n.n (omega (arith, l)) c.loop-n.invariant
-
-pub overflow_cast-n : goal.overflow_cast-n
-overflow_cast-n c = in-byte _ _ (rw c.as_slice-plan-items.ensures at c.loop-n-test.true) c.requires

@@ -1,5 +1,5 @@
 use Rattle.std.proofs.Common.{◌∙◌, sym}
-use Rattle.vc_plan.proofs.Deletions.{next-both, next-one, all-joined}
+use Rattle.vc_plan.proofs.Deletions.{next-both, next-one}
 use Rattle.vc_plan.proofs.searched_plan.each_once.Goals as goal
 use Rattle.vc_plan.proofs.searched_plan.each_once.Goals.{then-not-does_delete+in_ok-push, else-not-does_delete}
 
@@ -9,6 +9,3 @@ loop-link-preserved c =
       | then-not-does_delete+in_ok-push w ↦ next-both c.args.links.now c.loop-link.link-index _ c.loop-link.once c.if-not-does_delete.once c.loop-link-test.true (w.once-is ∙ w.in_ok-push.ensures.ok) c.loop-link.invariant
       | else-not-does_delete w ↦ next-one c.args.links.now c.loop-link.link-index _ c.loop-link.once c.if-not-does_delete.once c.loop-link-test.true w.once-is (rw c.as_slice.ensures at (sym c.does_delete.ensures ∙ w.if-not-does_delete.false)) c.loop-link.invariant
     ]
-
-pub returns : goal.returns
-returns c = all-joined c.loop-link.once c.args.links.now c.loop-link.link-index c.loop-link-test.false c.loop-link.invariant

@@ -2,22 +2,12 @@ use Rattle.std.proofs.Common.{◌≡◌, ◌<◌, ℕ, length, get_or, arith, ap
 use Rattle.vc_process.specs.Lawful.{Lawfully}
 use Rattle.vc_process.specs.Numbering.{written}
 use Rattle.vc_plan.specs.declared.node_plan.NodePlan.{NodePlan}
-use Rattle.vc_plan.specs.Limits.{process_names}
-use Rattle.vc_plan.proofs.SmallPlaces.{in-byte}
 use Rattle.vc_plan.proofs.Indices.{there-at, each-more, each-all}
-use Rattle.vc_plan.proofs.Limits.{passes}
 use Rattle.vc_plan.proofs.usage.find_usage.Goals as goal
 use Rattle.vc_plan.proofs.usage.find_usage.Goals.{After-usage_of}
 
 abbrev Keeps : ℕ → NodePlan → Type 0
 Keeps k node = Lawfully (written node.process)
-
-pub usage_of-requires : goal.usage_of-requires
-usage_of-requires c =
-    let is = rw c.as_slice-node-items.ensures at c.node-item.is in
-    let l = ap length c.as_slice-node-items.ensures in
-    let there = there-at c.args.plan.now.nodes c.loop-n.n c.node-item.result (omega (arith, l)) is in
-    passes (process_names c.args.plan.now) c.args.plan.now.nodes c.loop-n.n c.node-item.result c.requires.names there
 
 item-is : (c : After-usage_of) → c.node-item.result ≡ get_or c.args.plan.now.nodes c.loop-n.n c.node-item.result
 item-is c = rw c.as_slice-node-items.ensures at c.node-item.is
@@ -45,6 +35,3 @@ pub returns-clause-lawful : goal.returns-clause-lawful
 returns-clause-lawful c =
     let l = ap length c.as_slice-node-items.ensures in
     each-all Keeps c.args.plan.now.nodes c.loop-n.n (omega (arith, l)) c.loop-n.invariant
-
-pub overflow_cast-result : goal.overflow_cast-result
-overflow_cast-result c = in-byte _ _ (rw c.as_slice-node-items.ensures at c.loop-n-test.true) c.requires.few

@@ -20,6 +20,3 @@ returns-in-Eom-clause-ok c =
     let end = c.end_packet-in-Eom in
     let old = c.args.reading.now in
     on_ok_weaker end.result (packet_read old.limit c.args.packets.now.items end.new.packets.items old end.new.reading Eom (token c.args.next) (ap token c.in-Eom.is)) end.ensures.ok
-
-pub returns-in-Byte-2-clause-ok : goal.returns-in-Byte-2-clause-ok
-returns-in-Byte-2-clause-ok c = tt

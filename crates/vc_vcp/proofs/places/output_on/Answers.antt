@@ -1,5 +1,4 @@
-use Rattle.std.proofs.Common.{◌==◌}
-use Rattle.vc_vcp.proofs.KeyedLemmas.{first_finds, first_within, likely_at}
+use Rattle.vc_vcp.proofs.KeyedLemmas.{first_finds, likely_at}
 use Rattle.vc_vcp.proofs.places.output_on.Goals as goal
 
 pub returns-then-outputs-hint-clause-found : goal.returns-then-outputs-hint-clause-found
@@ -8,6 +7,3 @@ returns-then-outputs-hint-clause-found c =
 
 pub returns-clause-found : goal.returns-clause-found
 returns-clause-found c = first_finds (λ x. x.chan) c.args.chan c.args.outputs.now c.first_output_on.result c.first_output_on.ensures
-
-pub returns-clause-within : goal.returns-clause-within
-returns-clause-within c = first_within (λ x. x.chan == c.args.chan) c.args.outputs.now c.first_output_on.result c.first_output_on.ensures

@@ -1,19 +1,8 @@
 use Rattle.std.proofs.Common.{◌∙◌, ◌<◌, ◌∷◌, ap, arith}
 use Rattle.vc_cycles.proofs.Among.{read_at}
 use Rattle.vc_cycles.proofs.CycleSearch.{from_less}
-use Rattle.vc_cycles.proofs.Ways.{way_more, way_round, way_whole}
+use Rattle.vc_cycles.proofs.Ways.{way_more}
 use Rattle.vc_cycles.proofs.round.Round.path.Goals as goal
-
-pub loop-at-init : goal.loop-at-init
-loop-at-init c = record {
-  within = c.requires.within;
-  way = way_whole c.args.self.now.found.items c.args.last c.new-ports.result.items c.new-ports.ensures.items;
-}
-
-pub loop-at-smaller : goal.loop-at-smaller
-loop-at-smaller c =
-    from_less c.args.self.now.found.items c.loop-at.at c.index-found.result.now c.requires.back (omega arith)
-    (read_at c.args.self.now.found.items c.loop-at.at c.index-found.result.now c.loop-at.invariant.within c.index-found.ensures)
 
 pub loop-at-preserved : goal.loop-at-preserved
 loop-at-preserved c =
@@ -32,10 +21,3 @@ pub port_at-requires-2 : goal.port_at-requires-2
 port_at-requires-2 c =
     let within = c.requires.within in
     c.requires.back.small 0 c.index.result.now (read_at c.args.self.now.found.items 0 c.index.result.now (omega (arith, within)) c.index.ensures)
-
-pub returns : goal.returns
-returns c =
-    let within = c.requires.within in
-    way_round c.args.self.now.found.items c.loop-at.at c.args.last c.index.result.now c.loop-at.ports.items c.insert-2.new.self.items (omega arith)
-    (read_at c.args.self.now.found.items 0 c.index.result.now (omega (arith, within)) c.index.ensures) c.loop-at.invariant.way
-    (c.in_ok-insert-2.ensures.items ∙ ap (λ p. p ∷ c.loop-at.ports.items) c.port_at-2.ensures)

@@ -1,18 +1,10 @@
 use Rattle.std.proofs.Common.{◌≡◌, ◌∙◌, ◌+◌, ◌-◌, ◌<◌, suc, length, drop, ap, sym, arith}
 use Rattle.vc_occam.specs.Frames.{besides, outcome_of, task_view}
 use Rattle.vc_occam.specs.Private.Frames.{seen_task, task_views}
-use Rattle.vc_occam.proofs.Abreast.{besides_end, besides_go, besides_more, task_count, task_ended, task_goes}
+use Rattle.vc_occam.proofs.Abreast.{besides_go, besides_more, task_ended, task_goes}
 use Rattle.vc_occam.proofs.PartSteps.{part_is_sound}
 use Rattle.vc_occam.proofs.Pars.{task_at}
 use Rattle.vc_occam.proofs.go.Par+Frame.outcome.Goals as goal
-
-pub loop-behind-init : goal.loop-behind-init
-loop-behind-init c =
-    let ts = c.args.self.now.tasks.items in
-    let vs = task_views ts in
-    let n = task_count ts in
-    let all : length ts - 0 ≡ length vs = omega arith in
-    ap (λ k. besides (drop k vs)) all ∙ besides_end vs
 
 pub returns-then-not-has_ended : goal.returns-then-not-has_ended
 returns-then-not-has_ended c =

@@ -39,10 +39,3 @@ returns-clause-listed c =
     let none = c.is_empty.ensures.0 c.if-not-is_empty.false in
     let alone : joined (among self.inside) ms ms ≡ ms = ap (λ (xs : List ℕ). joined (among xs) ms ms) none ∙ unjoined ms ms in
     some_listed c.args.site _ c.first_from.result (c.first_from.ensures ∙ ap (λ (xs : List Datum). from_site c.args.site (own (remains self.task) (store xs))) c.deref.ensures.value ∙ ap (from_site c.args.site) (sym alone))
-
-pub returns-clause-joined : goal.returns-clause-joined
-unfolding state inner_channels
-returns-clause-joined c = λ k on.
-    let none = c.is_empty.ensures.0 c.if-not-is_empty.false in
-    let z : true ≡ false = sym on ∙ ap (λ (xs : List ℕ). among xs k) none in
-    absurd cc

@@ -1,7 +1,4 @@
-use Rattle.std.proofs.Common.{subst}
-use Rattle.vc_tokens.specs.CodeTokens.{token}
-use Rattle.vc_switch.specs.Switch.{Comes}
-use Rattle.vc_switch.specs.SwitchView.{seen, IsKept}
+use Rattle.vc_switch.specs.SwitchView.{seen}
 use Rattle.vc_switch.proofs.RequestMasks.{came_same, asked_same}
 use Rattle.vc_switch.proofs.Readiness.{ready_came, comes_else, told_is}
 use Rattle.vc_switch.proofs.ready_switch.ReadySwitch.take.Goals as goal
@@ -17,9 +14,3 @@ invariant_of-self c =
       asked = asked_same s t c.self.inside.requests c.take-taken.ensures.kept same c.self.invariant.asked;
       routed = c.self.invariant.routed;
     }
-
-pub returns-clause-comes : goal.returns-clause-comes
-returns-clause-comes c = subst (λ z. Comes (seen z) c.args.link c.args.word (token c.args.came) (seen c.take-taken.new.self)) c.self.view_is c.take-taken.ensures.comes
-
-pub returns-clause-kept : goal.returns-clause-kept
-returns-clause-kept c = subst (λ z. IsKept z c.take-taken.new.self) c.self.view_is c.take-taken.ensures.kept

@@ -1,11 +1,9 @@
-use Rattle.std.proofs.Common.{◌<◌, sym, ap, subst, slice_set, arith}
+use Rattle.std.proofs.Common.{◌<◌, sym, ap, arith}
 use Rattle.std.proofs.lemmas.Option.{slice_get_read}
 use Rattle.vc_switch.specs.Switch.{SendsFct}
 use Rattle.vc_switch.specs.State.{State, plan_of, limit_of, output_of}
-use Rattle.vc_switch.specs.SwitchView.{IsKept}
-use Rattle.vc_switch.proofs.ListWrites.{at_link}
 use Rattle.vc_switch.proofs.ListChanges.{told}
-use Rattle.vc_switch.proofs.Preservation.{link_in, switch_in, kept_limit}
+use Rattle.vc_switch.proofs.Preservation.{link_in, switch_in}
 use Rattle.vc_switch.proofs.Steps.{grants_fct, link_granted}
 use Rattle.vc_switch.proofs.switch.Switch.grant.Goals as goal
 
@@ -30,15 +28,3 @@ returns-clause-grants c =
     let within : k < 32 = omega arith in
     let here = slice_get_read x.inputs.items 32 k a (sym c.self.invariant.input_links) within c.index_mut.ensures.value in
     told SendsFct o c.args.self.now k c.args.link _ c.self.view_is c.from.ensures (grants_fct o k a y here c.grant.ensures.grants c.grant.ensures.rest)
-
-pub index_mut-requires : goal.index_mut-requires
-index_mut-requires c = at_link c.self.inside.inputs c.from.result c.args.link c.from.ensures c.requires.link c.self.invariant.input_links
-
-pub returns-clause-kept : goal.returns-clause-kept
-returns-clause-kept c =
-    let x = c.self.inside in
-    let o : State = record { table = x.table; ranges = x.ranges.items; deletes = x.deletes.items; inputs = x.inputs.items; outputs = x.outputs.items; lost = x.lost } in
-    let k = c.from.result in
-    let a = c.index_mut.result.now in
-    let here = slice_get_read x.inputs.items 32 k a (sym c.self.invariant.input_links) (subst (λ z. z < 32) (sym c.from.ensures) c.requires.link) c.index_mut.ensures.value in
-    subst (λ z. IsKept z (record o { inputs = slice_set x.inputs.items k c.grant.new.self })) c.self.view_is (kept_limit o k x.lost a c.grant.new.self x.outputs.items here (ap (λ z. z.got.limit) c.grant.ensures.rest))

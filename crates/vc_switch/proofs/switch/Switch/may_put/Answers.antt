@@ -1,15 +1,10 @@
 use Rattle.std.proofs.Common.{◌≡◌, ◌<◌, sym, ap, ◌∙◌, subst, slice_get, Some}
 use Rattle.std.proofs.lemmas.Option.{slice_get_read}
-use Rattle.vc_switch.specs.State.{State, IsSwitch, plan_of}
-use Rattle.vc_switch.specs.SwitchView.{seen}
+use Rattle.vc_switch.specs.State.{IsSwitch}
 use Rattle.vc_switch.proofs.Beyond.{sourced_within}
-use Rattle.vc_switch.proofs.ListWrites.{read_there, at_link, at_some}
-use Rattle.vc_switch.proofs.Puts.{free_puts, put_iff, no_credit, bound_there, next_within}
+use Rattle.vc_switch.proofs.ListWrites.{read_there}
+use Rattle.vc_switch.proofs.Puts.{put_iff, no_credit}
 use Rattle.vc_switch.proofs.switch.Switch.may_put.Goals as goal
-
-pub returns-in-None : goal.returns-in-None
-returns-in-None c =
-    (λ t. absurd (cc), λ can. absurd (free_puts (plan_of c.args.self.now) (seen c.args.self.now) c.args.output c.in-None.ensures can))
 
 pub returns-then-may_send : goal.returns-then-may_send
 returns-then-may_send c =
@@ -39,25 +34,3 @@ returns-else-may_send c =
     let reads = slice_get_read x.outputs.items 32 c.from.result p (sym c.self.invariant.output_links) within c.index.ensures in
     let there = subst (λ z. slice_get z.outputs c.args.output ≡ Some p) c.self.view_is (subst (λ j. slice_get x.outputs.items j ≡ Some p) c.from.ensures reads) in
     no_credit s c.args.output c.in-Some.source c.in-Some.bound p c.may_send.result w t there c.may_send.ensures c.if-may_send.false
-
-pub index-requires : goal.index-requires
-index-requires c =
-    let less = sourced_within c.args.self.now c.args.output c.in-Some.source (subst IsSwitch c.self.view_is c.self.invariant) c.in-Some.ensures.source in
-    at_link c.self.inside.outputs c.from.result c.args.output c.from.ensures less c.self.invariant.output_links
-
-pub may_send-requires : goal.may_send-requires
-may_send-requires c = tt
-
-pub index-requires-then-may_send : goal.index-requires-then-may_send
-index-requires-then-may_send c =
-    let x = c.self.inside in
-    let o : State = record { table = x.table; ranges = x.ranges.items; deletes = x.deletes.items; inputs = x.inputs.items; outputs = x.outputs.items; lost = x.lost } in
-    let k = c.from-then-may_send.result in
-    let t = c.in-Some.ensures in
-    at_some x.inputs k t.input (bound_there c.args.self.now o k c.args.output c.in-Some.source c.in-Some.bound c.self.view_is c.from-then-may_send.ensures t)
-
-pub has_next-requires : goal.has_next-requires
-has_next-requires c =
-    let x = c.self.inside in
-    let o : State = record { table = x.table; ranges = x.ranges.items; deletes = x.deletes.items; inputs = x.inputs.items; outputs = x.outputs.items; lost = x.lost } in
-    next_within c.args.self.now o c.from-then-may_send.result c.args.output c.in-Some.source c.in-Some.bound c.index-then-may_send.result.now (subst IsSwitch c.self.view_is c.self.invariant) c.self.view_is c.from-then-may_send.ensures c.in-Some.ensures c.index-then-may_send.ensures

@@ -1,14 +1,11 @@
 use Rattle.std.proofs.Common.{◌≡◌, ◌<◌, sym, ap, ◌∙◌, subst, arith, true, slice_set, None}
 use Rattle.std.proofs.lemmas.Option.{slice_get_read}
-use Rattle.vc_tokens.specs.Tokens.{Byte}
-use Rattle.vc_credit.specs.Ends.{IsFront}
 use Rattle.vc_switch.specs.Switch.{Passes, drawn}
-use Rattle.vc_switch.specs.State.{State, IsRange, interval_of, plan_of, limit_of, output_of}
-use Rattle.vc_switch.specs.SwitchView.{seen, IsKept}
-use Rattle.vc_switch.proofs.ListWrites.{all-at, at_link}
+use Rattle.vc_switch.specs.State.{State, interval_of, plan_of, limit_of, output_of}
+use Rattle.vc_switch.specs.SwitchView.{seen}
 use Rattle.vc_switch.proofs.ListChanges.{input_at}
 use Rattle.vc_packets.specs.Counters.{one_more}
-use Rattle.vc_switch.proofs.Preservation.{link_in, switch_in, kept_limit, room_at}
+use Rattle.vc_switch.proofs.Preservation.{link_in, switch_in}
 use Rattle.vc_switch.proofs.Steps.{header_at, byte_passes, byte_drops, link_byte, link_dropped}
 use Rattle.vc_switch.proofs.switch.Switch.pass_byte.Goals as goal
 
@@ -72,52 +69,3 @@ returns-else-not-pass_byte-clause-passes c =
     subst (λ z. Passes (limit_of z.inputs) (plan_of z) (seen z) c.args.link (seen (record o { inputs = slice_set x.inputs.items k c.pass_byte.new.self }))) c.self.view_is
     (subst (λ j. Passes (limit_of x.inputs.items) (plan_of o) (seen o) j (seen (record o { inputs = slice_set x.inputs.items k c.pass_byte.new.self }))) c.from-at.ensures
     (byte_passes o k c.args.byte (drawn (interval_of r) a.word) a c.pass_byte.new.self c.self.invariant here drew going c.pass_byte.ensures.front (c.pass_byte.ensures.room.0 c.if-not-pass_byte.false) c.if-not-pass_byte.ensures.added))
-
-pub index-requires : goal.index-requires
-index-requires c = at_link c.self.inside.ranges c.from-at.result c.args.link c.from-at.ensures c.requires.link c.self.invariant.range_links
-
-pub pass_byte-requires-clause-range : goal.pass_byte-requires-clause-range
-pass_byte-requires-clause-range c =
-    let x = c.self.inside in
-    let r = c.index.result.now in
-    all-at IsRange x.ranges.items c.from-at.result r c.self.invariant.ranges (slice_get_read x.ranges.items 32 c.from-at.result r (sym c.self.invariant.range_links) (subst (λ z. z < 32) (sym c.from-at.ensures) c.requires.link) c.index.ensures)
-
-pub index_mut-requires : goal.index_mut-requires
-index_mut-requires c = at_link c.self.inside.inputs c.from-at.result c.args.link c.from-at.ensures c.requires.link c.self.invariant.input_links
-
-pub pass_byte-requires-clause-limit : goal.pass_byte-requires-clause-limit
-pass_byte-requires-clause-limit c =
-    let x = c.self.inside in
-    let o : State = record { table = x.table; ranges = x.ranges.items; deletes = x.deletes.items; inputs = x.inputs.items; outputs = x.outputs.items; lost = x.lost } in
-    let k = c.from-at.result in
-    let a = c.index_mut.result.now in
-    let here = slice_get_read x.inputs.items 32 k a (sym c.self.invariant.input_links) (subst (λ z. z < 32) (sym c.from-at.ensures) c.requires.link) c.index_mut.ensures.value in
-    room_at o k a c.self.invariant here
-
-pub pass_byte-requires-clause-front : goal.pass_byte-requires-clause-front
-pass_byte-requires-clause-front c =
-    let x = c.self.inside in
-    let o : State = record { table = x.table; ranges = x.ranges.items; deletes = x.deletes.items; inputs = x.inputs.items; outputs = x.outputs.items; lost = x.lost } in
-    let k = c.from-at.result in
-    let a = c.index_mut.result.now in
-    let here = slice_get_read x.inputs.items 32 k a (sym c.self.invariant.input_links) (subst (λ z. z < 32) (sym c.from-at.ensures) c.requires.link) c.index_mut.ensures.value in
-    subst (λ z. IsFront z.receiver (Byte c.args.byte)) (input_at o k a here) (subst (λ z. IsFront ((seen z).input k).receiver (Byte c.args.byte)) (sym c.self.view_is) (subst (λ j. IsFront ((seen c.args.self.now).input j).receiver (Byte c.args.byte)) (sym c.from-at.ensures) c.requires.front))
-
-pub returns-then-not-pass_byte-clause-kept : goal.returns-then-not-pass_byte-clause-kept
-returns-then-not-pass_byte-clause-kept c =
-    let x = c.self.inside in
-    let o : State = record { table = x.table; ranges = x.ranges.items; deletes = x.deletes.items; inputs = x.inputs.items; outputs = x.outputs.items; lost = x.lost } in
-    let k = c.from-at.result in
-    let a = c.index_mut.result.now in
-    let here = slice_get_read x.inputs.items 32 k a (sym c.self.invariant.input_links) (subst (λ z. z < 32) (sym c.from-at.ensures) c.requires.link) c.index_mut.ensures.value in
-    subst (IsKept c.args.self.now) (sym c.drop_one.ensures)
-    (subst (λ z. IsKept z (record o { inputs = slice_set x.inputs.items k c.pass_byte.new.self; lost = one_more x.lost })) c.self.view_is (kept_limit o k (one_more x.lost) a c.pass_byte.new.self x.outputs.items here (ap (λ z. z.got.limit) c.if-not-pass_byte.ensures.dropped)))
-
-pub returns-else-not-pass_byte-clause-kept : goal.returns-else-not-pass_byte-clause-kept
-returns-else-not-pass_byte-clause-kept c =
-    let x = c.self.inside in
-    let o : State = record { table = x.table; ranges = x.ranges.items; deletes = x.deletes.items; inputs = x.inputs.items; outputs = x.outputs.items; lost = x.lost } in
-    let k = c.from-at.result in
-    let a = c.index_mut.result.now in
-    let here = slice_get_read x.inputs.items 32 k a (sym c.self.invariant.input_links) (subst (λ z. z < 32) (sym c.from-at.ensures) c.requires.link) c.index_mut.ensures.value in
-    subst (λ z. IsKept z (record o { inputs = slice_set x.inputs.items k c.pass_byte.new.self })) c.self.view_is (kept_limit o k x.lost a c.pass_byte.new.self x.outputs.items here (ap (λ z. z.got.limit) c.if-not-pass_byte.ensures.added))

@@ -1,15 +1,12 @@
 use Rattle.std.proofs.Common.{◌≡◌, ◌<◌, sym, ap, ◌∙◌, subst, arith, slice_set, None}
 use Rattle.std.proofs.lemmas.Option.{slice_get_read}
-use Rattle.vc_tokens.specs.Tokens.{EndMark}
-use Rattle.vc_credit.specs.Ends.{IsFront}
 use Rattle.vc_switch.specs.Switch.{Passes, drawn}
-use Rattle.vc_switch.specs.State.{State, IsRange, interval_of, plan_of, limit_of, output_of}
-use Rattle.vc_switch.specs.SwitchView.{seen, IsKept}
+use Rattle.vc_switch.specs.State.{State, interval_of, plan_of, limit_of, output_of}
+use Rattle.vc_switch.specs.SwitchView.{seen}
 use Rattle.vc_switch.proofs.Fronts.{bound_front}
-use Rattle.vc_switch.proofs.ListWrites.{all-at, at_link}
 use Rattle.vc_switch.proofs.ListChanges.{input_at}
 use Rattle.vc_packets.specs.Counters.{one_more}
-use Rattle.vc_switch.proofs.Preservation.{link_in, switch_in, kept, kept_limit, room_at}
+use Rattle.vc_switch.proofs.Preservation.{link_in, switch_in}
 use Rattle.vc_switch.proofs.Steps.{header_at, mark_passes, mark_loses, link_whole, link_lost}
 use Rattle.vc_switch.proofs.switch.Switch.pass_mark.Goals as goal
 
@@ -40,22 +37,6 @@ invariant_of-self-else-not-pass_mark c =
     let drew = header_at o k a.word r range in
     let is = c.if-not-pass_mark.ensures.whole in
     switch_in o k x.lost a c.pass_mark.new.self c.self.invariant here (link_whole (plan_of o) (limit_of x.inputs.items) c.args.mark (drawn (interval_of r) a.word) a c.pass_mark.new.self (link_in o k a c.self.invariant here) c.pass_mark.ensures.front is) (ap (λ z. output_of z.bound) is)
-
-pub returns-then-not-pass_mark-clause-kept : goal.returns-then-not-pass_mark-clause-kept
-returns-then-not-pass_mark-clause-kept c =
-    let x = c.self.inside in
-    let o : State = record { table = x.table; ranges = x.ranges.items; deletes = x.deletes.items; inputs = x.inputs.items; outputs = x.outputs.items; lost = x.lost } in
-    let k = c.from-at.result in
-    let a = c.index_mut.result.now in
-    let within : k < 32 = omega arith in
-    let here = slice_get_read x.inputs.items 32 k a (sym c.self.invariant.input_links) within c.index_mut.ensures.value in
-    let r = c.index.result.now in
-    let range = slice_get_read x.ranges.items 32 k r (sym c.self.invariant.range_links) within c.index.ensures in
-    let drew = header_at o k a.word r range in
-    let new : State = record o { inputs = slice_set x.inputs.items k c.pass_mark.new.self; lost = one_more x.lost } in
-    subst (IsKept c.args.self.now) (sym c.drop_one.ensures) (subst (λ z. IsKept z new) c.self.view_is
-    (kept o k (one_more x.lost) a c.pass_mark.new.self x.outputs.items c.self.invariant here
-    (link_lost (plan_of o) (limit_of x.inputs.items) c.args.mark (drawn (interval_of r) a.word) a c.pass_mark.new.self (link_in o k a c.self.invariant here) c.pass_mark.ensures.front c.if-not-pass_mark.ensures.none c.if-not-pass_mark.ensures.dropped)))
 
 pub returns-then-not-pass_mark-clause-passes : goal.returns-then-not-pass_mark-clause-passes
 returns-then-not-pass_mark-clause-passes c =
@@ -89,45 +70,6 @@ returns-else-not-pass_mark-clause-passes c =
     subst (λ z. Passes (limit_of z.inputs) (plan_of z) (seen z) c.args.link (seen (record o { inputs = slice_set x.inputs.items k c.pass_mark.new.self }))) c.self.view_is
     (subst (λ j. Passes (limit_of x.inputs.items) (plan_of o) (seen o) j (seen (record o { inputs = slice_set x.inputs.items k c.pass_mark.new.self }))) c.from-at.ensures
     (mark_passes o k c.args.mark c.if-not-pass_mark.ensures.group.0 (drawn (interval_of r) a.word) a c.pass_mark.new.self c.self.invariant here drew going c.pass_mark.ensures.front c.if-not-pass_mark.ensures.group.1 c.if-not-pass_mark.ensures.whole))
-
-pub index-requires : goal.index-requires
-index-requires c = at_link c.self.inside.ranges c.from-at.result c.args.link c.from-at.ensures c.requires.link c.self.invariant.range_links
-
-pub pass_mark-requires-clause-range : goal.pass_mark-requires-clause-range
-pass_mark-requires-clause-range c =
-    let x = c.self.inside in
-    let r = c.index.result.now in
-    all-at IsRange x.ranges.items c.from-at.result r c.self.invariant.ranges (slice_get_read x.ranges.items 32 c.from-at.result r (sym c.self.invariant.range_links) (subst (λ z. z < 32) (sym c.from-at.ensures) c.requires.link) c.index.ensures)
-
-pub index_mut-requires : goal.index_mut-requires
-index_mut-requires c = at_link c.self.inside.inputs c.from-at.result c.args.link c.from-at.ensures c.requires.link c.self.invariant.input_links
-
-pub pass_mark-requires-clause-limit : goal.pass_mark-requires-clause-limit
-pass_mark-requires-clause-limit c =
-    let x = c.self.inside in
-    let o : State = record { table = x.table; ranges = x.ranges.items; deletes = x.deletes.items; inputs = x.inputs.items; outputs = x.outputs.items; lost = x.lost } in
-    let k = c.from-at.result in
-    let a = c.index_mut.result.now in
-    let here = slice_get_read x.inputs.items 32 k a (sym c.self.invariant.input_links) (subst (λ z. z < 32) (sym c.from-at.ensures) c.requires.link) c.index_mut.ensures.value in
-    room_at o k a c.self.invariant here
-
-pub pass_mark-requires-clause-front : goal.pass_mark-requires-clause-front
-pass_mark-requires-clause-front c =
-    let x = c.self.inside in
-    let o : State = record { table = x.table; ranges = x.ranges.items; deletes = x.deletes.items; inputs = x.inputs.items; outputs = x.outputs.items; lost = x.lost } in
-    let k = c.from-at.result in
-    let a = c.index_mut.result.now in
-    let here = slice_get_read x.inputs.items 32 k a (sym c.self.invariant.input_links) (subst (λ z. z < 32) (sym c.from-at.ensures) c.requires.link) c.index_mut.ensures.value in
-    subst (λ z. IsFront z.receiver (EndMark c.args.mark)) (input_at o k a here) (subst (λ z. IsFront ((seen z).input k).receiver (EndMark c.args.mark)) (sym c.self.view_is) (subst (λ j. IsFront ((seen c.args.self.now).input j).receiver (EndMark c.args.mark)) (sym c.from-at.ensures) c.requires.front))
-
-pub returns-else-not-pass_mark-clause-kept : goal.returns-else-not-pass_mark-clause-kept
-returns-else-not-pass_mark-clause-kept c =
-    let x = c.self.inside in
-    let o : State = record { table = x.table; ranges = x.ranges.items; deletes = x.deletes.items; inputs = x.inputs.items; outputs = x.outputs.items; lost = x.lost } in
-    let k = c.from-at.result in
-    let a = c.index_mut.result.now in
-    let here = slice_get_read x.inputs.items 32 k a (sym c.self.invariant.input_links) (subst (λ z. z < 32) (sym c.from-at.ensures) c.requires.link) c.index_mut.ensures.value in
-    subst (λ z. IsKept z (record o { inputs = slice_set x.inputs.items k c.pass_mark.new.self })) c.self.view_is (kept_limit o k x.lost a c.pass_mark.new.self x.outputs.items here (ap (λ z. z.got.limit) c.if-not-pass_mark.ensures.whole))
 
 pub pass_mark-requires-clause-bound : goal.pass_mark-requires-clause-bound
 pass_mark-requires-clause-bound c =

@@ -1,4 +1,4 @@
-use Rattle.std.proofs.Common.{◌≡◌, ◌<◌, sym, ap, ◌∙◌, subst, arith, slice_get, slice_set, length, vec_len, rules, Some, ◌+◌}
+use Rattle.std.proofs.Common.{◌≡◌, ◌<◌, sym, ap, ◌∙◌, subst, arith, slice_get, slice_set, length, Some, ◌+◌}
 use Rattle.std.proofs.lemmas.Option.{slice_get_read, slice_get_within}
 use Rattle.vc_switch.specs.State.{State, IsSwitch, plan_of, output_of, source_at}
 use Rattle.vc_switch.specs.SwitchView.{seen}
@@ -11,29 +11,6 @@ use Rattle.vc_switch.proofs.ListWrites.{read_there}
 use Rattle.vc_switch.proofs.Preservation.{switch_two}
 use Rattle.vc_switch.proofs.Puts.{sends_byte, link_advanced, can_there}
 use Rattle.vc_switch.proofs.switch.Switch.put_byte.Goals as goal
-
-pub index_mut-requires : goal.index_mut-requires
-index_mut-requires c =
-    let x = c.self.inside in
-    let s = c.args.self.now in
-    let o : State = record { table = x.table; ranges = x.ranges.items; deletes = x.deletes.items; inputs = x.inputs.items; outputs = x.outputs.items; lost = x.lost } in
-    let v : o ≡ s = c.self.view_is in
-    let w : IsSwitch o = c.self.invariant in
-    let k = c.from.result in
-    let u = c.requires.bound in
-    let here_k : slice_get x.inputs.items k ≡ Some u.input = subst (λ l. slice_get x.inputs.items l ≡ Some u.input) (sym c.from.ensures) (subst (λ z. slice_get z.inputs c.args.source ≡ Some u.input) (sym v) u.here) in
-    let len : vec_len x.inputs ≡ length x.inputs.items = search rules in
-    subst (λ n. k < n) (sym len) (slice_get_within x.inputs.items k u.input here_k)
-
-pub advance-requires-clause-is : goal.advance-requires-clause-is
-advance-requires-clause-is c =
-    let x = c.self.inside in
-    let v = c.self.view_is in
-    let k = c.from.result in
-    let u = c.requires.bound in
-    let here_k : slice_get x.inputs.items k ≡ Some u.input = subst (λ l. slice_get x.inputs.items l ≡ Some u.input) (sym c.from.ensures) (subst (λ z. slice_get z.inputs c.args.source ≡ Some u.input) (sym v) u.here) in
-    let same : u.input ≡ c.index_mut.result.now = read_there x.inputs.items k u.input c.index_mut.result.now here_k c.index_mut.ensures.value in
-    subst (λ z. z.bound ≡ Some c.args.bound) same u.bound
 
 pub advance-requires-clause-within : goal.advance-requires-clause-within
 advance-requires-clause-within c =

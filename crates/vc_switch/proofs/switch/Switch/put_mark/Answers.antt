@@ -2,14 +2,13 @@ use Rattle.std.proofs.Common.{◌≡◌, ◌<◌, sym, ap, ◌∙◌, subst, ari
 use Rattle.std.proofs.lemmas.Option.{slice_get_read}
 use Rattle.vc_tokens.specs.CodeTokens.{token}
 use Rattle.vc_switch.specs.State.{State, IsSwitch, plan_of, source_at}
-use Rattle.vc_switch.specs.SwitchView.{seen, IsKept}
+use Rattle.vc_switch.specs.SwitchView.{seen}
 use Rattle.vc_switch.specs.Private.SwitchView.{IsBoundTo}
 use Rattle.vc_switch.specs.Able.{CanPut}
 use Rattle.vc_switch.specs.Waiting.{Wormhole}
 use Rattle.vc_switch.specs.Switch.{Sends}
-use Rattle.vc_switch.proofs.ListWrites.{read_there, some_at, at_link, at_some}
-use Rattle.vc_switch.proofs.Puts.{sends_mark, switch_freed, can_there, nothing_next, bound_there}
-use Rattle.vc_switch.proofs.Preservation.{kept_limit}
+use Rattle.vc_switch.proofs.ListWrites.{read_there, some_at}
+use Rattle.vc_switch.proofs.Puts.{sends_mark, switch_freed, can_there, nothing_next}
 use Rattle.vc_switch.proofs.switch.Switch.put_mark.Goals as goal
 
 pub unreachable-requires : goal.unreachable-requires
@@ -84,61 +83,3 @@ returns-clause-sends c =
     subst (λ z. Sends (plan_of z) Wormhole (seen z) c.args.output m (seen new)) v
     (subst (λ i. Sends (plan_of o) Wormhole (seen o) i m (seen new)) c.from.ensures
     (sends_mark o j k c.in-Some.mark m c.args.bound p c.release-in-Some.new.self c.release.new.self w t there credit next mark c.from-in-Some.ensures c.release.ensures c.release-in-Some.ensures))
-
-pub index-requires : goal.index-requires
-index-requires c =
-    let x = c.self.inside in
-    let o : State = record { table = x.table; ranges = x.ranges.items; deletes = x.deletes.items; inputs = x.inputs.items; outputs = x.outputs.items; lost = x.lost } in
-    let k = c.from-at.result in
-    let u = c.requires.bound in
-    let here = bound_there c.args.self.now o k c.args.output c.args.source c.args.bound c.self.view_is c.from-at.ensures u in
-    at_some x.inputs k u.input here
-
-pub index_mut-requires : goal.index_mut-requires
-index_mut-requires c =
-    let x = c.self.inside in
-    let o : State = record { table = x.table; ranges = x.ranges.items; deletes = x.deletes.items; inputs = x.inputs.items; outputs = x.outputs.items; lost = x.lost } in
-    let k = c.from-at.result in
-    let u = c.requires.bound in
-    let here = bound_there c.args.self.now o k c.args.output c.args.source c.args.bound c.self.view_is c.from-at.ensures u in
-    at_some x.inputs k u.input here
-
-pub release-requires : goal.release-requires
-release-requires c = tt
-
-pub index_mut-requires-in-Some : goal.index_mut-requires-in-Some
-index_mut-requires-in-Some c = at_link c.self.inside.outputs c.from.result c.args.output c.from.ensures c.requires.output c.self.invariant.output_links
-
-pub release-requires-in-Some : goal.release-requires-in-Some
-release-requires-in-Some c =
-    let x = c.self.inside in
-    let s = c.args.self.now in
-    let o : State = record { table = x.table; ranges = x.ranges.items; deletes = x.deletes.items; inputs = x.inputs.items; outputs = x.outputs.items; lost = x.lost } in
-    let v : o ≡ s = c.self.view_is in
-    let w : IsSwitch o = c.self.invariant in
-    let k = c.from-at.result in
-    let u = c.requires.bound in
-    let here_k : slice_get x.inputs.items k ≡ Some u.input = subst (λ l. slice_get x.inputs.items l ≡ Some u.input) (sym c.from-at.ensures) (subst (λ z. slice_get z.inputs c.args.source ≡ Some u.input) (sym v) u.here) in
-    let read : u.input ≡ c.index.result.now = read_there x.inputs.items k u.input c.index.result.now here_k c.index.ensures in
-    let a = c.index_mut.result.now in
-    let same : u.input ≡ a = read_there x.inputs.items k u.input a here_k c.index_mut.ensures.value in
-    let j = c.from.result in
-    let low : j < 32 = omega arith in
-    let p = c.index_mut-in-Some.result.now in
-    let there = slice_get_read x.outputs.items 32 j p (sym c.self.invariant.output_links) low c.index_mut-in-Some.ensures.value in
-    let source : source_at x.outputs.items j ≡ Some k = subst (λ i. source_at x.outputs.items i ≡ Some k) (sym c.from.ensures) (subst (λ z. source_at z.outputs c.args.output ≡ Some k) (sym v) (u.source ∙ ap Some (sym c.from-at.ensures))) in
-    let t : IsBoundTo o j k c.args.bound = record { input = a; here = here_k ∙ ap Some same; bound = subst (λ z. z.bound ≡ Some c.args.bound) same u.bound; source = source } in
-    let may : CanPut (plan_of o) (seen o) j = subst (CanPut (plan_of o) (seen o)) (sym c.from.ensures) (subst (λ z. CanPut (plan_of z) (seen z) c.args.output) (sym v) c.requires.may) in
-    (can_there o j k c.args.bound p w t there may).0
-
-pub returns-clause-kept : goal.returns-clause-kept
-returns-clause-kept c =
-    let x = c.self.inside in
-    let o : State = record { table = x.table; ranges = x.ranges.items; deletes = x.deletes.items; inputs = x.inputs.items; outputs = x.outputs.items; lost = x.lost } in
-    let k = c.from-at.result in
-    let u = c.requires.bound in
-    let here = bound_there c.args.self.now o k c.args.output c.args.source c.args.bound c.self.view_is c.from-at.ensures u in
-    let a = c.index_mut.result.now in
-    let outputs = slice_set x.outputs.items c.from.result c.release-in-Some.new.self in
-    let limit : c.release.new.self.got.limit ≡ u.input.got.limit = ap (λ z. z.got.limit) (c.release.ensures) ∙ ap (λ z. z.got.limit) (sym (read_there x.inputs.items k u.input a here c.index_mut.ensures.value)) in
-    subst (λ z. IsKept z (record o { inputs = slice_set x.inputs.items k c.release.new.self; outputs = outputs })) c.self.view_is (kept_limit o k x.lost u.input c.release.new.self outputs here limit)

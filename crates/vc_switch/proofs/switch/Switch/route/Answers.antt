@@ -2,14 +2,13 @@ use Rattle.std.proofs.Common.{◌≡◌, ◌<◌, ◌≤◌, sym, ap, ◌∙◌,
 use Rattle.std.proofs.lemmas.Option.{slice_get_read}
 use Rattle.vc_switch.specs.State.{State, IsSwitch, plan_of}
 use Rattle.vc_packets.specs.Functions.{shown_or}
-use Rattle.vc_switch.specs.SwitchView.{seen, IsKept}
-use Rattle.vc_switch.proofs.ListWrites.{same_read, at_link}
+use Rattle.vc_switch.specs.SwitchView.{seen}
+use Rattle.vc_switch.proofs.ListWrites.{same_read}
 use Rattle.vc_switch.specs.Able.{CanRoute}
 use Rattle.vc_switch.specs.Waiting.{Wormhole}
 use Rattle.vc_switch.specs.Switch.{Routes}
 use Rattle.vc_switch.specs.Front.{front_of}
 use Rattle.vc_switch.specs.Private.Front.{start_of}
-use Rattle.vc_switch.proofs.Preservation.{kept_limit}
 use Rattle.vc_switch.proofs.Routes.{under_way, switch_routed, routes, choices_none, route_leaves}
 use Rattle.vc_switch.proofs.switch.Switch.route.Goals as goal
 
@@ -91,34 +90,3 @@ returns-clause-routes c =
     (subst (λ i. Routes (plan_of o) Wormhole (seen o) c.args.input i (seen new)) c.from-out.ensures
     (subst (λ i. Routes (plan_of o) Wormhole (seen o) i j (seen new)) c.from-at.ensures
     (routes o k j (start_of d f) b c.bind.new.self p c.bind-in-Some.new.self w here there may_j is source)))
-
-pub index-requires : goal.index-requires
-index-requires c = at_link c.self.inside.inputs c.from-at.result c.args.input c.from-at.ensures c.requires.input c.self.invariant.input_links
-
-pub bytes-requires : goal.bytes-requires
-bytes-requires c = tt
-
-pub index-requires-in-Some : goal.index-requires-in-Some
-index-requires-in-Some c = at_link c.self.inside.deletes c.from-out.result c.args.output c.from-out.ensures c.requires.output c.self.invariant.delete_links
-
-pub index_mut-requires : goal.index_mut-requires
-index_mut-requires c = at_link c.self.inside.inputs c.from-at.result c.args.input c.from-at.ensures c.requires.input c.self.invariant.input_links
-
-pub bind-requires : goal.bind-requires
-bind-requires c = tt
-
-pub index_mut-requires-in-Some : goal.index_mut-requires-in-Some
-index_mut-requires-in-Some c = at_link c.self.inside.outputs c.from-out.result c.args.output c.from-out.ensures c.requires.output c.self.invariant.output_links
-
-pub bind-requires-in-Some : goal.bind-requires-in-Some
-bind-requires-in-Some c = tt
-
-pub returns-clause-kept : goal.returns-clause-kept
-returns-clause-kept c =
-    let x = c.self.inside in
-    let o : State = record { table = x.table; ranges = x.ranges.items; deletes = x.deletes.items; inputs = x.inputs.items; outputs = x.outputs.items; lost = x.lost } in
-    let k = c.from-at.result in
-    let a = c.index_mut.result.now in
-    let here = slice_get_read x.inputs.items 32 k a (sym c.self.invariant.input_links) (subst (λ z. z < 32) (sym c.from-at.ensures) c.requires.input) c.index_mut.ensures.value in
-    let outputs = slice_set x.outputs.items c.from-out.result c.bind-in-Some.new.self in
-    subst (λ z. IsKept z (record o { inputs = slice_set x.inputs.items k c.bind.new.self; outputs = outputs })) c.self.view_is (kept_limit o k x.lost a c.bind.new.self outputs here (ap (λ z. z.got.limit) c.bind.ensures))

@@ -1,12 +1,9 @@
-use Rattle.std.proofs.Common.{◌≡◌, ◌<◌, ◌≤◌, sym, subst, arith, true, slice_get, slice_set, Some}
+use Rattle.std.proofs.Common.{◌≡◌, ◌<◌, ◌≤◌, sym, subst, arith, true, slice_get, Some}
 use Rattle.std.proofs.lemmas.Option.{slice_get_read}
 use Rattle.vc_tokens.specs.Tokens.{Fct}
 use Rattle.vc_vcp.specs.Links.{Comes}
 use Rattle.vc_vcp.specs.State.{State}
-use Rattle.vc_vcp.specs.VcpView.{seen, IsKept}
-use Rattle.vc_packets.specs.Counters.{one_more}
-use Rattle.vc_vcp.proofs.Passes.{at_link, same_there, kept_outs, kept_strays}
-use Rattle.vc_vcp.proofs.Preservation.{wired-outs}
+use Rattle.vc_vcp.specs.VcpView.{seen}
 use Rattle.vc_vcp.proofs.ListWrites.{same_read}
 use Rattle.vc_vcp.proofs.ListChanges.{fct_due, fct_dropped, told}
 use Rattle.vc_vcp.proofs.vcp.Vcp.accept_credit.Goals as goal
@@ -33,30 +30,3 @@ returns-else-may_credit-clause-comes c =
     let here = subst (λ z. slice_get z.outs c.args.link ≡ Some c.index.result.now) c.self.view_is (subst (λ j. slice_get x.outs.items j ≡ Some c.index.result.now) c.from-out.ensures read) in
     subst (λ z. Comes (seen s) c.args.link Fct (seen z)) (sym c.drop_one.ensures)
     (fct_dropped s c.args.link c.index.result.now here (λ low. (let t : c.may_credit.result ≡ true = c.may_credit.ensures.1 low in absurd (cc))))
-
-pub index-requires : goal.index-requires
-index-requires c = at_link c.self.inside.outs c.from-out.result c.args.link c.from-out.ensures c.requires c.self.invariant.four_out
-
-pub index_mut-requires : goal.index_mut-requires
-index_mut-requires c = at_link c.self.inside.outs c.from-out.result c.args.link c.from-out.ensures c.requires c.self.invariant.four_out
-
-pub credit-requires : goal.credit-requires
-credit-requires c =
-    let x = c.self.inside in
-    let within = subst (λ z. z < 4) (sym c.from-out.ensures) c.requires in
-    subst (λ z. z.sender.credit ≤ 8) (same_there x.outs.items c.from-out.result c.index.result.now c.index_mut.result.now c.self.invariant.four_out within c.index.ensures c.index_mut.ensures.value) (c.may_credit.ensures.0 c.if-may_credit.true)
-
-pub invariant_of-self : goal.invariant_of-self
-invariant_of-self c =
-    let x = c.self.inside in
-    let o : State = record { outputs = x.outputs.items; inputs = x.inputs.items; outs = x.outs.items; ins = x.ins.items; strays = x.strays } in
-    wired-outs o c.from-out.result c.credit.new.self c.self.invariant
-
-pub returns-then-may_credit-clause-kept : goal.returns-then-may_credit-clause-kept
-returns-then-may_credit-clause-kept c =
-    let x = c.self.inside in
-    let o : State = record { outputs = x.outputs.items; inputs = x.inputs.items; outs = x.outs.items; ins = x.ins.items; strays = x.strays } in
-    subst (λ z. IsKept z (record o { outs = slice_set x.outs.items c.from-out.result c.credit.new.self })) c.self.view_is (kept_outs o (slice_set x.outs.items c.from-out.result c.credit.new.self))
-
-pub returns-else-may_credit-clause-kept : goal.returns-else-may_credit-clause-kept
-returns-else-may_credit-clause-kept c = subst (IsKept c.args.self.now) (sym c.drop_one.ensures) (kept_strays c.args.self.now (one_more c.args.self.now.strays))

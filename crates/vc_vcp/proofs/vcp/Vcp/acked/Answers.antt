@@ -1,13 +1,12 @@
 use Rattle.std.proofs.Common.{◌≡◌, ◌<◌, ◌∙◌, [], false, true, None, Some, slice_get, sym, ap, refl, subst, length}
 use Rattle.std.proofs.lemmas.Option.{slice_get_read}
-use Rattle.vc_vcp.specs.Names.{named, NamesDiffer}
-use Rattle.vc_vcp.specs.VcpView.{seen, link_of, IsKept, taken_of}
+use Rattle.vc_vcp.specs.Names.{named}
+use Rattle.vc_vcp.specs.VcpView.{seen, IsKept, taken_of}
 use Rattle.vc_vcp.specs.Private.VcpView.{Acks, advance_told}
 use Rattle.vc_vcp.specs.State.{State, HaveOwnNames, IsOutput}
 use Rattle.vc_vcp.proofs.KeyedLemmas.{named_has}
-use Rattle.vc_vcp.proofs.Passes.{at_place}
-use Rattle.vc_vcp.proofs.ListWrites.{same_read, always_on_err}
-use Rattle.vc_vcp.proofs.EndChanges.{with_output, kept-output, links-output, output_back}
+use Rattle.vc_vcp.proofs.ListWrites.{same_read}
+use Rattle.vc_vcp.proofs.EndChanges.{with_output, kept-output, links-output}
 use Rattle.vc_vcp.proofs.Strays.{ack_strays, idle_none, idle_some}
 use Rattle.vc_vcp.proofs.Takes.{acks_ok}
 use Rattle.vc_vcp.proofs.Preservation.{wired-output, all-at}
@@ -104,83 +103,3 @@ returns-clause-kept c =
     let here = slice_get_read x.outputs.items (length x.outputs.items) i a refl (subst (λ z. i < length z) c.deref.ensures.value c.in-Some.ensures.within) c.index_mut.ensures.value in
     subst (λ z. IsKept z (with_output o i c.acked.new.self c.from-link.result c.acked.new.queue)) c.self.view_is
     (kept-output o i c.from-link.result a c.acked.new.self c.acked.new.queue own here c.acked.ensures.stays)
-
-pub output_of-requires : goal.output_of-requires
-output_of-requires c = subst (λ z. NamesDiffer (λ x. x.block) z) (sym c.deref.ensures.value) c.self.invariant.names.out_blocks
-
-pub returns-in_default-clause-links : goal.returns-in_default-clause-links
-returns-in_default-clause-links c = ap link_of c.stray.ensures.counted
-
-pub returns-in_default-clause-kept : goal.returns-in_default-clause-kept
-returns-in_default-clause-kept c = subst (λ z. IsKept c.args.self.now z) (sym c.stray.ensures.counted) (record { ends = refl; limit = refl })
-
-pub returns-then-is_idle-clause-links : goal.returns-then-is_idle-clause-links
-returns-then-is_idle-clause-links c = ap link_of c.stray-then-is_idle.ensures.counted
-
-pub returns-then-is_idle-clause-kept : goal.returns-then-is_idle-clause-kept
-returns-then-is_idle-clause-kept c = subst (λ z. IsKept c.args.self.now z) (sym c.stray-then-is_idle.ensures.counted) (record { ends = refl; limit = refl })
-
-pub acked-requires : goal.acked-requires
-acked-requires c =
-    let x = c.self.inside in
-    let i = c.in-Some.at in
-    let a = c.index_mut.result.now in
-    let here = slice_get_read x.outputs.items (length x.outputs.items) i a refl (subst (λ z. i < length z) c.deref.ensures.value c.in-Some.ensures.within) c.index_mut.ensures.value in
-    let one = same_read x.outputs.items i c.index.result.now a (slice_get_read x.outputs.items (length x.outputs.items) i c.index.result.now refl (subst (λ z. i < length z) c.deref.ensures.value c.in-Some.ensures.within) c.index.ensures) here in
-    λ none. (let t : c.is_idle.result ≡ true = c.is_idle.ensures.1 (ap (λ z. z.half.unacked) one ∙ none) in let f : c.is_idle.result ≡ false = c.if-is_idle.false in absurd (cc))
-
-pub returns-in_err-advance-clause-links : goal.returns-in_err-advance-clause-links
-returns-in_err-advance-clause-links c =
-    let x = c.self.inside in
-    let o : State = record { outputs = x.outputs.items; inputs = x.inputs.items; outs = x.outs.items; ins = x.ins.items; strays = x.strays } in
-    let i = c.in-Some.at in
-    let k = c.from-link.result in
-    let q = c.index_mut-2.result.now in
-    let read = slice_get_read x.outputs.items (length x.outputs.items) i c.index-2.result.now refl (subst (λ z. i < length z) c.deref.ensures.value c.in-Some.ensures.within) c.index-2.ensures in
-    let less : k < 4 = subst (λ z. z < 4) (sym c.from-link.ensures) (all-at IsOutput x.outputs.items i c.index-2.result.now c.self.invariant.outputs read).link in
-    let out = slice_get_read x.outs.items 4 k q (sym c.self.invariant.four_out) less c.index_mut-2.ensures.value in
-    subst (λ z. (seen (with_output o i c.acked.new.self k c.acked.new.queue)).link ≡ (seen z).link) c.self.view_is
-    (links-output o i k c.acked.new.self q c.acked.new.queue out c.acked.ensures.sender)
-
-pub returns-in_err-advance-clause-kept : goal.returns-in_err-advance-clause-kept
-returns-in_err-advance-clause-kept c =
-    let x = c.self.inside in
-    let o : State = record { outputs = x.outputs.items; inputs = x.inputs.items; outs = x.outs.items; ins = x.ins.items; strays = x.strays } in
-    let i = c.in-Some.at in
-    let a = c.index_mut.result.now in
-    let here = slice_get_read x.outputs.items (length x.outputs.items) i a refl (subst (λ z. i < length z) c.deref.ensures.value c.in-Some.ensures.within) c.index_mut.ensures.value in
-    subst (λ z. IsKept z (with_output o i c.acked.new.self c.from-link.result c.acked.new.queue)) c.self.view_is
-    (kept-output o i c.from-link.result a c.acked.new.self c.acked.new.queue c.self.invariant.names here c.acked.ensures.stays)
-
-pub returns-in_err-advance-clause-err : goal.returns-in_err-advance-clause-err
-returns-in_err-advance-clause-err c =
-    let x = c.self.inside in
-    let o : State = record { outputs = x.outputs.items; inputs = x.inputs.items; outs = x.outs.items; ins = x.ins.items; strays = x.strays } in
-    let i = c.in-Some.at in
-    let a = c.index_mut.result.now in
-    let here = slice_get_read x.outputs.items (length x.outputs.items) i a refl (subst (λ z. i < length z) c.deref.ensures.value c.in-Some.ensures.within) c.index_mut.ensures.value in
-    let k = c.from-link.result in
-    let q = c.index_mut-2.result.now in
-    let read = slice_get_read x.outputs.items (length x.outputs.items) i c.index-2.result.now refl (subst (λ z. i < length z) c.deref.ensures.value c.in-Some.ensures.within) c.index-2.ensures in
-    let less : k < 4 = subst (λ z. z < 4) (sym c.from-link.ensures) (all-at IsOutput x.outputs.items i c.index-2.result.now c.self.invariant.outputs read).link in
-    let out = slice_get_read x.outs.items 4 k q (sym c.self.invariant.four_out) less c.index_mut-2.ensures.value in
-    always_on_err c.from_residual.result
-    (output_back o i k a c.acked.new.self q c.acked.new.queue here out c.in_err-advance.ensures.err c.in_err-advance.ensures.err_queue ∙ c.self.view_is)
-
-pub index-requires : goal.index-requires
-index-requires c = at_place c.self.inside.outputs c.deref.result.now c.in-Some.at c.deref.ensures.value c.in-Some.ensures.within
-
-pub index-requires-2 : goal.index-requires-2
-index-requires-2 c = at_place c.self.inside.outputs c.deref.result.now c.in-Some.at c.deref.ensures.value c.in-Some.ensures.within
-
-pub index-requires-3 : goal.index-requires-3
-index-requires-3 c = at_place c.self.inside.outputs c.deref.result.now c.in-Some.at c.deref.ensures.value c.in-Some.ensures.within
-
-pub index_mut-requires : goal.index_mut-requires
-index_mut-requires c = at_place c.self.inside.outputs c.deref.result.now c.in-Some.at c.deref.ensures.value c.in-Some.ensures.within
-
-pub returns-in_default-clause-err : goal.returns-in_default-clause-err
-returns-in_default-clause-err c = tt
-
-pub returns-then-is_idle-clause-err : goal.returns-then-is_idle-clause-err
-returns-then-is_idle-clause-err c = tt

@@ -1,29 +1,10 @@
-use Rattle.std.proofs.Common.{◌<◌, ◌≤◌, ◌∙◌, sym, subst, slice_set, IfSome}
+use Rattle.std.proofs.Common.{◌<◌, sym, subst, slice_set, IfSome}
 use Rattle.std.proofs.lemmas.Option.{slice_get_read}
 use Rattle.vc_vcp.specs.Links.{LeavesWhole}
-use Rattle.vc_vcp.specs.VcpView.{seen, IsKept}
+use Rattle.vc_vcp.specs.VcpView.{seen}
 use Rattle.vc_vcp.specs.State.{State}
-use Rattle.vc_vcp.proofs.Beyond.{out_past}
-use Rattle.vc_vcp.proofs.LeavingWhole.{none_whole, same_outs, told_can, whole_if, whole_iff}
-use Rattle.vc_vcp.proofs.Passes.{at_link, kept_outs}
-use Rattle.vc_vcp.proofs.Preservation.{wired-outs}
+use Rattle.vc_vcp.proofs.LeavingWhole.{told_can, whole_if, whole_iff}
 use Rattle.vc_vcp.proofs.vcp.Vcp.next_out.Goals as goal
-
-pub returns-then-link-links-clause-can : goal.returns-then-link-links-clause-can
-returns-then-link-links-clause-can c =
-    let s = c.args.self.now in
-    none_whole s c.args.link (out_past s c.args.link c.links.ensures.ends.0 (subst (λ n. n ≤ c.args.link) c.links.ensures.four c.if-link-links.true))
-
-pub index_mut-requires : goal.index_mut-requires
-index_mut-requires c =
-    let few = subst (λ n. c.args.link < n) c.links.ensures.four c.if-link-links.false in
-    at_link c.self.inside.outs c.from.result c.args.link c.from.ensures few c.self.invariant.four_out
-
-pub invariant_of-self : goal.invariant_of-self
-invariant_of-self c =
-    let x = c.self.inside in
-    let o : State = record { outputs = x.outputs.items; inputs = x.inputs.items; outs = x.outs.items; ins = x.ins.items; strays = x.strays } in
-    wired-outs o c.from.result c.take_front.new.self c.self.invariant
 
 pub returns-clause-can : goal.returns-clause-can
 returns-clause-can c =
@@ -45,19 +26,3 @@ returns-clause-leaves c =
     subst (λ z. IfSome c.take_front.result (λ p. LeavesWhole (seen z) c.args.link p (seen new))) c.self.view_is
     (subst (λ k. IfSome c.take_front.result (λ p. LeavesWhole (seen o) k p (seen new))) c.from.ensures
     (whole_if o c.from.result q c.take_front.new.self c.take_front.result here c.take_front.ensures.takes))
-
-pub returns-clause-kept : goal.returns-clause-kept
-returns-clause-kept c =
-    let x = c.self.inside in
-    let o : State = record { outputs = x.outputs.items; inputs = x.inputs.items; outs = x.outs.items; ins = x.ins.items; strays = x.strays } in
-    let outs = slice_set x.outs.items c.from.result c.take_front.new.self in
-    subst (λ z. IsKept z (record o { outs = outs })) c.self.view_is (kept_outs o outs)
-
-pub returns-clause-none : goal.returns-clause-none
-returns-clause-none c =
-    let x = c.self.inside in
-    let o : State = record { outputs = x.outputs.items; inputs = x.inputs.items; outs = x.outs.items; ins = x.ins.items; strays = x.strays } in
-    let within : c.from.result < 4 = subst (λ n. c.from.result < n) c.links.ensures.four (subst (λ k. k < c.links.result) (sym c.from.ensures) c.if-link-links.false) in
-    let q = c.index_mut.result.now in
-    let here = slice_get_read x.outs.items 4 c.from.result q (sym c.self.invariant.four_out) within c.index_mut.ensures.value in
-    λ none. same_outs o c.from.result q c.take_front.new.self here (c.take_front.ensures.same none) ∙ c.self.view_is

@@ -2,12 +2,11 @@ use Rattle.std.proofs.Common.{◌≡◌, ◌<◌, refl, sym, ◌∙◌, subst, a
 use Rattle.std.proofs.lemmas.Option.{slice_get_read}
 use Rattle.vc_vcp.specs.State.{State, IsOutput}
 use Rattle.vc_vcp.proofs.Preservation.{wired-output, all-at}
-use Rattle.vc_vcp.specs.Names.{named, NamesDiffer}
+use Rattle.vc_vcp.specs.Names.{named}
 use Rattle.vc_vcp.specs.VcpView.{seen, ends_of, carrier_of, IsKept}
 use Rattle.vc_vcp.specs.Steps.{Offers}
 use Rattle.vc_vcp.proofs.KeyedLemmas.{named_has}
-use Rattle.vc_vcp.proofs.Passes.{at_link, at_place}
-use Rattle.vc_vcp.proofs.ListWrites.{same_read, asked_is, asked_found, on_ok, on_err}
+use Rattle.vc_vcp.proofs.ListWrites.{same_read, on_ok, on_err}
 use Rattle.vc_vcp.proofs.EndChanges.{with_output, offers, kept-output, links-output, output_back}
 use Rattle.vc_vcp.proofs.vcp.Vcp.offer.Goals as goal
 
@@ -56,24 +55,6 @@ returns-clause-kept c =
     subst (λ z. IsKept z (with_output o i c.offer.new.self c.from-link.result c.offer.new.queue)) c.self.view_is
     (kept-output o i c.from-link.result a c.offer.new.self c.offer.new.queue own here c.offer.ensures.stays)
 
-pub output_on-requires : goal.output_on-requires
-output_on-requires c = subst (λ z. NamesDiffer (λ x. x.chan) z) (sym c.deref.ensures.value) c.self.invariant.names.out_chans
-
-pub offer-requires : goal.offer-requires
-offer-requires c =
-    let x = c.self.inside in
-    let i = c.in-Some.at in
-    let a = c.index_mut.result.now in
-    let here = slice_get_read x.outputs.items (length x.outputs.items) i a refl (subst (λ z. i < length z) c.deref.ensures.value c.in-Some.ensures.within) c.index_mut.ensures.value in
-    let asked = subst (λ z. named (λ x. x.chan) c.args.chan z.outputs ≡ Some c.requires.output) (sym c.self.view_is) c.requires.here in
-    subst (λ z. z.half.unacked ≡ []) (asked_is (λ x. x.chan) c.args.chan c.deref.result.now x.outputs.items i c.requires.output a c.deref.ensures.value c.in-Some.ensures.found asked here) c.requires.idle
-
-pub unreachable-requires : goal.unreachable-requires
-unreachable-requires c =
-    let x = c.self.inside in
-    let asked = subst (λ z. named (λ x. x.chan) c.args.chan z.outputs ≡ Some c.requires.output) (sym c.self.view_is) c.requires.here in
-    asked_found (λ x. x.chan) c.args.chan c.deref.result.now x.outputs.items c.requires.output c.deref.ensures.value c.in-None.ensures.found asked
-
 pub returns-clause-links : goal.returns-clause-links
 returns-clause-links c =
     let x = c.self.inside in
@@ -101,16 +82,3 @@ returns-clause-err c =
     let out = slice_get_read x.outs.items 4 k q (sym c.self.invariant.four_out) less c.index_mut-in-Some.ensures.value in
     subst (λ z. OnErr c.offer.result (with_output o i c.offer.new.self k c.offer.new.queue ≡ z)) c.self.view_is
     (on_err c.offer.result (output_back o i k a c.offer.new.self q c.offer.new.queue here out) c.offer.ensures.err c.offer.ensures.err_queue)
-
-pub index-requires : goal.index-requires
-index-requires c = at_place c.self.inside.outputs c.deref.result.now c.in-Some.at c.deref.ensures.value c.in-Some.ensures.within
-
-pub index_mut-requires : goal.index_mut-requires
-index_mut-requires c = at_place c.self.inside.outputs c.deref.result.now c.in-Some.at c.deref.ensures.value c.in-Some.ensures.within
-
-pub index_mut-requires-in-Some : goal.index_mut-requires-in-Some
-index_mut-requires-in-Some c =
-    let x = c.self.inside in
-    let i = c.in-Some.at in
-    let read = slice_get_read x.outputs.items (length x.outputs.items) i c.index.result.now refl (subst (λ z. i < length z) c.deref.ensures.value c.in-Some.ensures.within) c.index.ensures in
-    at_link x.outs c.from-link.result c.index.result.now.link c.from-link.ensures (all-at IsOutput x.outputs.items i c.index.result.now c.self.invariant.outputs read).link c.self.invariant.four_out

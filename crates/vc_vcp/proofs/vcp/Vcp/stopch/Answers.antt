@@ -1,13 +1,12 @@
-use Rattle.std.proofs.Common.{◌≡◌, ◌<◌, false, Some, slice_get, slice_set, refl, sym, ap, ◌∙◌, subst, length}
+use Rattle.std.proofs.Common.{◌≡◌, ◌<◌, false, Some, slice_get, slice_set, refl, sym, ◌∙◌, subst, length}
 use Rattle.std.proofs.lemmas.Option.{slice_get_read}
 use Rattle.vc_vcp.specs.declared.input.Input.{Input}
-use Rattle.vc_vcp.specs.Names.{named, NamesDiffer}
-use Rattle.vc_vcp.specs.VcpView.{seen, ends_of, carrier_of, link_of, IsKept}
+use Rattle.vc_vcp.specs.Names.{named}
+use Rattle.vc_vcp.specs.VcpView.{seen, ends_of, carrier_of, IsKept}
 use Rattle.vc_vcp.specs.Steps.{Stops}
 use Rattle.vc_vcp.specs.State.{State, IsInput}
 use Rattle.vc_vcp.proofs.KeyedLemmas.{named_has}
-use Rattle.vc_vcp.proofs.ListWrites.{same_read, asked_is, asked_found}
-use Rattle.vc_vcp.proofs.Passes.{at_place}
+use Rattle.vc_vcp.proofs.ListWrites.{same_read}
 use Rattle.vc_vcp.proofs.Stops.{stops, kept-stop}
 use Rattle.vc_vcp.proofs.Preservation.{wired-input, stopped_input, all-at}
 use Rattle.vc_vcp.proofs.vcp.Vcp.stopch.Goals as goal
@@ -48,27 +47,3 @@ returns-clause-kept c =
     let here = slice_get_read x.inputs.items (length x.inputs.items) i a refl (subst (λ z. i < length z) c.deref.ensures.value c.in-Some.ensures.within) c.index_mut.ensures.value in
     subst (λ z. IsKept z (record o { inputs = slice_set x.inputs.items i new })) c.self.view_is
     (kept-stop o i a new own here (record { chan = refl; link = refl; block = refl; route = refl }))
-
-pub input_on-requires : goal.input_on-requires
-input_on-requires c = subst (λ z. NamesDiffer (λ x. x.chan) z) (sym c.deref.ensures.value) c.self.invariant.names.in_chans
-
-pub index_mut-requires : goal.index_mut-requires
-index_mut-requires c = at_place c.self.inside.inputs c.deref.result.now c.in-Some.at c.deref.ensures.value c.in-Some.ensures.within
-
-pub stop-requires : goal.stop-requires
-stop-requires c =
-    let x = c.self.inside in
-    let i = c.in-Some.at in
-    let a = c.index_mut.result.now in
-    let here = slice_get_read x.inputs.items (length x.inputs.items) i a refl (subst (λ z. i < length z) c.deref.ensures.value c.in-Some.ensures.within) c.index_mut.ensures.value in
-    let asked = subst (λ z. named (λ x. x.chan) c.args.chan z.inputs ≡ Some c.requires.input) (sym c.self.view_is) c.requires.here in
-    subst (λ z. z.half.wants ≡ false) (asked_is (λ x. x.chan) c.args.chan c.deref.result.now x.inputs.items i c.requires.input a c.deref.ensures.value c.in-Some.ensures.found asked here) c.requires.idle
-
-pub unreachable-requires : goal.unreachable-requires
-unreachable-requires c =
-    let x = c.self.inside in
-    let asked = subst (λ z. named (λ x. x.chan) c.args.chan z.inputs ≡ Some c.requires.input) (sym c.self.view_is) c.requires.here in
-    asked_found (λ x. x.chan) c.args.chan c.deref.result.now x.inputs.items c.requires.input c.deref.ensures.value c.in-None.ensures.found asked
-
-pub returns-clause-links : goal.returns-clause-links
-returns-clause-links c = ap link_of c.self.view_is

@@ -1,12 +1,10 @@
-use Rattle.std.proofs.Common.{◌≡◌, ◌∙◌, arith, sym, ap, refl, subst, length}
+use Rattle.std.proofs.Common.{◌≡◌, arith, subst, length}
 use Rattle.vc_vcp.specs.Private.Bound.{IsStray, with_inputs}
 use Rattle.vc_vcp.specs.VcpView.{ends_of, seen, carrier_of, link_of, IsKept, taken_of}
-use Rattle.vc_vcp.specs.State.{State, IsAckOf, IsInput}
+use Rattle.vc_vcp.specs.State.{State, IsAckOf}
 use Rattle.vc_vcp.specs.Steps.{Arrives}
-use Rattle.std.specs.List.{AllByRecursion}
-use Rattle.vc_packets.specs.Counters.{one_more}
 use Rattle.vc_vcp.proofs.ArrivalChanges.{written, stays-written, arrives-written}
-use Rattle.vc_vcp.proofs.Passes.{passed_read, at_link, kept_strays}
+use Rattle.vc_vcp.proofs.Passes.{passed_read}
 use Rattle.vc_vcp.proofs.ListWrites.{if_ok}
 use Rattle.vc_vcp.proofs.Strays.{stray_is}
 use Rattle.vc_vcp.proofs.vcp.Vcp.take_passed.Goals as goal
@@ -65,33 +63,3 @@ returns-in-Nowhere-clause-arrives c =
     let o : State = record { outputs = x.outputs.items; inputs = x.inputs.items; outs = x.outs.items; ins = x.ins.items; strays = x.strays } in
     let body = passed_read s o c.args.at c.index.result.now c.passed.result.now c.self.view_is c.self.invariant.four_in c.requires c.index.ensures c.passed.ensures in
     stray_is s c.stray.new.self (record { body = (link_of s c.args.at).passed; mark = c.args.mark }) (taken_of c.stray.result) (subst (λ z. IsStray s (record { body = z; mark = c.args.mark })) body c.in-Nowhere.ensures) c.stray.ensures.stray c.stray.ensures.counted
-
-pub index-requires : goal.index-requires
-index-requires c = at_link c.self.inside.ins c.args.at c.args.at refl c.requires c.self.invariant.four_in
-
-pub index-requires-in-Input : goal.index-requires-in-Input
-index-requires-in-Input c = at_link c.self.inside.ins c.args.at c.args.at refl c.requires c.self.invariant.four_in
-
-pub arrive-requires-clause-inputs : goal.arrive-requires-clause-inputs
-arrive-requires-clause-inputs c = subst (AllByRecursion IsInput) (sym c.deref_mut.ensures.value) c.self.invariant.inputs
-
-pub arrive-requires-clause-four : goal.arrive-requires-clause-four
-arrive-requires-clause-four c = ap length c.deref_mut-in-Input.ensures.value ∙ c.self.invariant.four_out
-
-pub returns-in-Output-clause-links : goal.returns-in-Output-clause-links
-returns-in-Output-clause-links c = c.acked.ensures.links
-
-pub returns-in-Output-clause-kept : goal.returns-in-Output-clause-kept
-returns-in-Output-clause-kept c = c.acked.ensures.kept
-
-pub returns-in-Output-clause-err : goal.returns-in-Output-clause-err
-returns-in-Output-clause-err c = c.acked.ensures.err
-
-pub returns-in-Nowhere-clause-links : goal.returns-in-Nowhere-clause-links
-returns-in-Nowhere-clause-links c = ap link_of c.stray.ensures.counted
-
-pub returns-in-Nowhere-clause-kept : goal.returns-in-Nowhere-clause-kept
-returns-in-Nowhere-clause-kept c = subst (IsKept c.args.self.now) (sym c.stray.ensures.counted) (kept_strays c.args.self.now (one_more c.args.self.now.strays))
-
-pub returns-in-Nowhere-clause-err : goal.returns-in-Nowhere-clause-err
-returns-in-Nowhere-clause-err c = tt

@@ -1,12 +1,11 @@
 use Rattle.std.proofs.Common.{◌≡◌, ◌<◌, false, Some, IfOk, OnErr, slice_get, slice_set, refl, sym, ap, ◌∙◌, subst, length}
 use Rattle.std.proofs.lemmas.Option.{slice_get_read}
-use Rattle.vc_vcp.specs.Names.{named, NamesDiffer}
+use Rattle.vc_vcp.specs.Names.{named}
 use Rattle.vc_vcp.specs.VcpView.{seen, ends_of, carrier_of, Inputs, IsKept}
 use Rattle.vc_vcp.specs.State.{State, IsInput}
 use Rattle.vc_vcp.proofs.InputChanges.{inputs_ok, kept-input}
 use Rattle.vc_vcp.proofs.KeyedLemmas.{named_has}
-use Rattle.vc_vcp.proofs.Passes.{at_link, at_place}
-use Rattle.vc_vcp.proofs.ListWrites.{same_read, asked_is, asked_found, on_err}
+use Rattle.vc_vcp.proofs.ListWrites.{same_read, on_err}
 use Rattle.vc_vcp.proofs.EndChanges.{with_input, links-input, input_back}
 use Rattle.vc_vcp.proofs.Preservation.{wired-input, wired-outs, all-at}
 use Rattle.vc_vcp.proofs.vcp.Vcp.want.Goals as goal
@@ -57,33 +56,6 @@ returns-clause-kept c =
     subst (λ z. IsKept z (with_input o i c.want.new.self k c.want.new.queue)) c.self.view_is
     (kept-input o i k a c.want.new.self c.want.new.queue own here c.want.ensures.stays)
 
-pub input_on-requires : goal.input_on-requires
-input_on-requires c = subst (λ z. NamesDiffer (λ x. x.chan) z) (sym c.deref.ensures.value) c.self.invariant.names.in_chans
-
-pub want-requires-clause-idle : goal.want-requires-clause-idle
-want-requires-clause-idle c =
-    let x = c.self.inside in
-    let i = c.in-Some.at in
-    let a = c.index_mut.result.now in
-    let here = slice_get_read x.inputs.items (length x.inputs.items) i a refl (subst (λ z. i < length z) c.deref.ensures.value c.in-Some.ensures.within) c.index_mut.ensures.value in
-    let asked = subst (λ z. named (λ x. x.chan) c.args.chan z.inputs ≡ Some c.requires.input) (sym c.self.view_is) c.requires.here in
-    subst (λ z. z.half.wants ≡ false) (asked_is (λ x. x.chan) c.args.chan c.deref.result.now x.inputs.items i c.requires.input a c.deref.ensures.value c.in-Some.ensures.found asked here) c.requires.idle
-
-pub want-requires-clause-not_stopped : goal.want-requires-clause-not_stopped
-want-requires-clause-not_stopped c =
-    let x = c.self.inside in
-    let i = c.in-Some.at in
-    let a = c.index_mut.result.now in
-    let here = slice_get_read x.inputs.items (length x.inputs.items) i a refl (subst (λ z. i < length z) c.deref.ensures.value c.in-Some.ensures.within) c.index_mut.ensures.value in
-    let asked = subst (λ z. named (λ x. x.chan) c.args.chan z.inputs ≡ Some c.requires.input) (sym c.self.view_is) c.requires.here in
-    subst (λ z. z.half.stopped ≡ false) (asked_is (λ x. x.chan) c.args.chan c.deref.result.now x.inputs.items i c.requires.input a c.deref.ensures.value c.in-Some.ensures.found asked here) c.requires.not_stopped
-
-pub unreachable-requires : goal.unreachable-requires
-unreachable-requires c =
-    let x = c.self.inside in
-    let asked = subst (λ z. named (λ x. x.chan) c.args.chan z.inputs ≡ Some c.requires.input) (sym c.self.view_is) c.requires.here in
-    asked_found (λ x. x.chan) c.args.chan c.deref.result.now x.inputs.items c.requires.input c.deref.ensures.value c.in-None.ensures.found asked
-
 pub returns-clause-links : goal.returns-clause-links
 returns-clause-links c =
     let x = c.self.inside in
@@ -111,16 +83,3 @@ returns-clause-err c =
     let out = slice_get_read x.outs.items 4 k q (sym c.self.invariant.four_out) less c.index_mut-in-Some.ensures.value in
     subst (λ z. OnErr c.want.result (with_input o i c.want.new.self k c.want.new.queue ≡ z)) c.self.view_is
     (on_err c.want.result (input_back o i k a c.want.new.self q c.want.new.queue here out) c.want.ensures.err c.want.ensures.err_queue)
-
-pub index-requires : goal.index-requires
-index-requires c = at_place c.self.inside.inputs c.deref.result.now c.in-Some.at c.deref.ensures.value c.in-Some.ensures.within
-
-pub index_mut-requires : goal.index_mut-requires
-index_mut-requires c = at_place c.self.inside.inputs c.deref.result.now c.in-Some.at c.deref.ensures.value c.in-Some.ensures.within
-
-pub index_mut-requires-in-Some : goal.index_mut-requires-in-Some
-index_mut-requires-in-Some c =
-    let x = c.self.inside in
-    let i = c.in-Some.at in
-    let read = slice_get_read x.inputs.items (length x.inputs.items) i c.index.result.now refl (subst (λ z. i < length z) c.deref.ensures.value c.in-Some.ensures.within) c.index.ensures in
-    at_link x.outs c.from-link.result c.index.result.now.link c.from-link.ensures (all-at IsInput x.inputs.items i c.index.result.now c.self.invariant.inputs read).link c.self.invariant.four_out

@@ -1,5 +1,0 @@
-use Rattle.std.proofs.Common.{rules}
-use Rattle.vc_credit.proofs.receiver.Receiver.tokens.Goals as goal
-
-pub returns : goal.returns
-returns c = search rules

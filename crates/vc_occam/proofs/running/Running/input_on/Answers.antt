@@ -1,6 +1,0 @@
-use Rattle.vc_occam.specs.Runnings.{state}
-use Rattle.vc_occam.proofs.running.Running.input_on.Goals as goal
-
-pub returns : goal.returns
-unfolding state
-returns c = c.waits_on.ensures

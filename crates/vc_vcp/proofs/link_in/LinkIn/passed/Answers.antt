@@ -1,5 +1,0 @@
-use Rattle.std.proofs.Common.{rules}
-use Rattle.vc_vcp.proofs.link_in.LinkIn.passed.Goals as goal
-
-pub returns : goal.returns
-returns c = search rules
