@@ -3,11 +3,11 @@
 /// How a run ended.
 #[derive(Clone, Copy, Debug, PartialEq, Eq, Drop)]
 pub enum Close {
-    /// No event is enabled, and every process has ended.
+    /// Every process has ended. Of a run event by event no event is enabled then, either.
     Done,
     /// No event is enabled, and a process hasn't ended.
     Quiet,
-    /// As many events were made as were allowed.
+    /// As many events were made as were allowed, or, in threads, turns used. Of events that were replayed: more can happen.
     Limit,
     /// The gate closed.
     GateClosed,

@@ -62,8 +62,8 @@ impl Way {
         self.queue.back().copied()
     }
 
-    /// The front token is taken off. One that stands alone is taken from the end, so that the ring's head stays where it is: where tokens
-    /// come one by one none wraps around, and no branch on that is foreseen wrong (docs/lab).
+    /// Takes the front token off. One that stands alone is taken from the end, so that the ring's head stays where it is: where tokens come
+    /// one by one the ring never wraps around, and the branches on that are always foreseen (docs/lab).
     #[inline(always)]
     pub(crate) fn take_front(&mut self) -> Token
         requires { self.old ≢ [] }

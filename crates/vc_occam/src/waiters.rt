@@ -1,5 +1,5 @@
 //! The sites that wait on channels, as far as they are noted.
-ghost use Rattle.std.specs.Prelude.{◌≡◌, ◌≢◌, ◌⊎◌, ℕ, IfSome, Some, None, replicate};
+ghost use Rattle.std.specs.Prelude.{◌≡◌, ◌≢◌, ◌⊎◌, ℕ, IfSome, MatchOption, Some, None, replicate};
 ghost use Rattle.vc_occam.specs.Private.Waiters.{IsNoted};
 ghost use Rattle.vc_occam.specs.declared.waits.Waits.{Waits as Wanted};
 
@@ -8,16 +8,16 @@ use crate::waits::Waits;
 /// A site that waits on a channel.
 #[derive(Clone, Copy, Drop)]
 pub(crate) struct Waiter {
-    pub(crate) chan: u16,
-    pub(crate) site: u16,
+    chan: u16,
+    site: u16,
 }
 
 /// Of the sites that wait, those that began to wait last on each channel. Channels whose numbers agree modulo 256 share a place, and the
 /// later one has it: a site that waits need not be noted, and one that is noted waits.
 #[derive(Clone, Copy, Drop)]
 pub(crate) struct Waiters {
-    pub(crate) outputs: [Option<Waiter>; 256],
-    pub(crate) inputs: [Option<Waiter>; 256],
+    outputs: [Option<Waiter>; 256],
+    inputs: [Option<Waiter>; 256],
 }
 
 impl Waiters {
@@ -35,7 +35,9 @@ impl Waiters {
     /// The site that is noted to wait for this, if one is.
     #[inline(always)]
     pub(crate) fn site(&self, wanted: Waits) -> Option<u16>
-        ensures { IfSome result (IsNoted self.now wanted) }
+        ensures { MatchOption result
+            ((i : ℕ) → IsNoted self.now wanted i → ⊥)
+            (IsNoted self.now wanted) }
     {
         let (noted, on) = match wanted {
             Waits::Output { chan } => (self.outputs[usize::from(chan % 256)], chan),

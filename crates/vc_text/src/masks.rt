@@ -39,7 +39,7 @@ pub(crate) fn only(mask: u64) -> Option<u8>
     lowest(mask)
 }
 
-/// An actor of a mask: the word says which, each as often as any other.
+/// An actor of a mask, which the word draws.
 pub(crate) fn drawn(mask: u64, word: u32) -> Option<u8>
     ensures { IfSome result (λ actor. actor < 64) }
 {

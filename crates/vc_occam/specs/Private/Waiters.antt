@@ -15,7 +15,7 @@ abbrev pub IsNoted : Waiters → Waits → ℕ → Type 0
 IsNoted noted (waits.Output c) i = slice_get noted.outputs (c % 256) ≡ Some (Some (record { chan = c; site = i }))
 IsNoted noted (waits.Input c) i = slice_get noted.inputs (c % 256) ≡ Some (Some (record { chan = c; site = i }))
 
--- each site that is noted waits; of two proofs of that none differs
+-- each site that is noted waits, said as that none is noted that does not: an invariant may have one proof only, and that has one
 abbrev pub AllWait : Waiters → List Waiting → Type 0
 AllWait noted ws = (w : Waits) (i : ℕ) → IsNoted noted w i → (Contains ws (waits_at w i) → ⊥) → ⊥
 
