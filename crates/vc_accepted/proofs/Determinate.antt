@@ -1,6 +1,6 @@
 -- What a lawful process does leads to one state.
 use Rattle.std.proofs.Common.{◌≡◌, ℕ, List, Option, sym, ◌∙◌}
-use Rattle.vc_process.specs.ProcessStep.{ProcessStep, Offers, Wants, Chooses, Stops, Meets, Rests, Finishes, Receives}
+use Rattle.vc_process.specs.ProcessStep.{ProcessStep, Offers, Meets, Finishes, Receives}
 use Rattle.vc_occam.proofs.Determinate.{doing_one, offers_sent, meets_sent}
 use Rattle.vc_occam.proofs.Preservation.{doing_keeps_use}
 use Rattle.vc_occam.proofs.Sites.{doing_keeps}
@@ -14,14 +14,9 @@ goes_one p q r d g h l =
     λ i. record { inside = inside i; state = same i }
 
 next_one : (p q r : Process) (d : ProcessStep) → proceeds p d q → proceeds p d r → q ≡ r
-next_one p q r (Offers i c m) (l, (at, g)) (l', (at', h)) = goes_one p q r (Offers i c m) g h l
-next_one p q r (Wants i c a) (l, (at, g)) (l', (at', h)) = goes_one p q r (Wants i c a) g h l
-next_one p q r (Chooses i k c a) (l, (at, g)) (l', (at', h)) = goes_one p q r (Chooses i k c a) g h l
-next_one p q r (Stops i c) (l, (at, g)) (l', (at', h)) = goes_one p q r (Stops i c) g h l
-next_one p q r (Meets i j k c m) (l, (at, g)) (l', (at', h)) = goes_one p q r (Meets i j k c m) g h l
-next_one p q r (Rests i) (l, (at, g)) (l', (at', h)) = goes_one p q r (Rests i) g h l
 next_one p q r (Finishes c) (l, g) (l', h) = goes_one p q r (Finishes c) g h l
 next_one p q r (Receives c m) (l, g) (l', h) = goes_one p q r (Receives c m) g h l
+next_one p q r d (l, (at, g)) (l', (at', h)) = goes_one p q r d g h l
 
 offer_one : (p q r : Process) (i c : ℕ) (m k : List ℕ) → proceeds p (Offers i c m) q → proceeds p (Offers i c k) r → m ≡ k
 offer_one p q r i c m k (l, (at, g)) (l', (at', h)) = offers_sent p.state q.state r.state i c m k g.comms h.comms g.does h.does l.sites
@@ -36,11 +31,6 @@ goes_lawful : (p q : Process) (d : ProcessStep) → Goes p d q → IsLawful p �
 goes_lawful p q d g l = record { uses = doing_keeps_use p.state q.state d g.comms g.does l.uses; sites = doing_keeps p.state q.state d g.comms g.does l.sites }
 
 pub stay_lawful : LawfulProcessesStaySo
-stay_lawful p q (Offers i c m) (l, (at, g)) = goes_lawful p q (Offers i c m) g l
-stay_lawful p q (Wants i c a) (l, (at, g)) = goes_lawful p q (Wants i c a) g l
-stay_lawful p q (Chooses i k c a) (l, (at, g)) = goes_lawful p q (Chooses i k c a) g l
-stay_lawful p q (Stops i c) (l, (at, g)) = goes_lawful p q (Stops i c) g l
-stay_lawful p q (Meets i j k c m) (l, (at, g)) = goes_lawful p q (Meets i j k c m) g l
-stay_lawful p q (Rests i) (l, (at, g)) = goes_lawful p q (Rests i) g l
 stay_lawful p q (Finishes c) (l, g) = goes_lawful p q (Finishes c) g l
 stay_lawful p q (Receives c m) (l, g) = goes_lawful p q (Receives c m) g l
+stay_lawful p q x (l, (at, g)) = goes_lawful p q x g l

@@ -1,5 +1,5 @@
 -- Lawful processes stay so in every run, so what the actors did by themselves can be replayed.
-use Rattle.std.proofs.Common.{◌≡◌, ℕ, ◌<◌, true, false, sym, subst, List, [], ◌∷◌, Option, Some, None, inl, inr, nat_lt, arith, length, map}
+use Rattle.std.proofs.Common.{◌≡◌, ℕ, ◌<◌, true, false, sym, subst, List, [], ◌∷◌, Option, Some, inl, inr, nat_lt, arith, length, map}
 use Rattle.std.proofs.lemmas.Bool.{cases_eq, cases_lt}
 use Rattle.std.proofs.lemmas.Bool.Decides.{nat_tests}
 use Rattle.vc_accepted.specs.NetworkOf.{network_of}
@@ -47,11 +47,7 @@ module _ (plan : network.Plan) (waiting : Waiting) where
   goes_on : (old : Process) (t : Option node.Taken) (new : Process) → GoesOn does old t new → IsLawful old → GoesOn proceeds old t new × IsLawful new
   goes_on old (Some (node.Complete c m)) new d l = ((l, d), stay_lawful old new (Receives c m) (l, d))
   goes_on old (Some (node.Finished c)) new d l = ((l, d), stay_lawful old new (Finishes c) (l, d))
-  goes_on old (Some (node.Held c)) new e l = (e, subst IsLawful (sym e) l)
-  goes_on old (Some (node.Stored c)) new e l = (e, subst IsLawful (sym e) l)
-  goes_on old (Some (node.More c)) new e l = (e, subst IsLawful (sym e) l)
-  goes_on old (Some node.Stray) new e l = (e, subst IsLawful (sym e) l)
-  goes_on old None new e l = (e, subst IsLawful (sym e) l)
+  goes_on old o new e l = (e, subst IsLawful (sym e) l)
 
   node_on : (n : ℕ) (old : Node Process) (label : Label Act Token) (new : Node Process) → NodeStep plan does n old label new → IsLawful old.process → NodeStep plan proceeds n old label new × IsLawful new.process
   node_on n old (Own (Proc m)) new h l = moves_on n old m new h l
@@ -95,11 +91,7 @@ module _ (plan : network.Plan) (waiting : Waiting) where
   goes_off : (old : Process) (t : Option node.Taken) (new : Process) → GoesOn proceeds old t new → GoesOn does old t new
   goes_off old (Some (node.Complete c m)) new d = d.1
   goes_off old (Some (node.Finished c)) new d = d.1
-  goes_off old (Some (node.Held c)) new e = e
-  goes_off old (Some (node.Stored c)) new e = e
-  goes_off old (Some (node.More c)) new e = e
-  goes_off old (Some node.Stray) new e = e
-  goes_off old None new e = e
+  goes_off old o new e = e
 
   node_off : (n : ℕ) (old : Node Process) (label : Label Act Token) (new : Node Process) → NodeStep plan proceeds n old label new → NodeStep plan does n old label new
   node_off n old (Own (Proc m)) new h = moves_off n old m new h

@@ -1,7 +1,7 @@
 -- What a process does, step by step, is a trace of it, and tells the communications that its node makes.
-use Rattle.std.proofs.Common.{◌≡◌, ℕ, false, refl, sym, ap, subst, ◌∙◌, List, [], ◌∷◌, ◌++◌, Some, None, append_assoc}
+use Rattle.std.proofs.Common.{◌≡◌, ℕ, false, refl, sym, ap, subst, ◌∙◌, List, [], ◌∷◌, ◌++◌, Some, append_assoc}
 use Rattle.vc_machine.specs.Rendezvous as rendezvous
-use Rattle.vc_process.specs.ProcessStep.{ProcessStep, Offers, Wants, Chooses, Stops, Meets, Rests, Finishes, Receives}
+use Rattle.vc_process.specs.ProcessStep.{ProcessStep, Offers, Wants, Chooses, Stops, Meets, Finishes, Receives}
 use Rattle.vc_network.specs.Processes.{comms, Trace, none, more}
 use Rattle.vc_process.specs.declared.value_kind.ValueKind.{ValueKind}
 use Rattle.vc_occam.specs.InUse.{UsesLawfully}
@@ -102,15 +102,9 @@ module _ (channel : ℕ → ValueKind) (kinds : List ValueKind) where
       let t = told old new (Offers i c m) h.1 o in
       let q = by_message (Offers i c m) t.1 ((refl, t.2, t.3), tt) (outputs old.inside c t.0 (offers_outside old.inside old.state.rest old.state.store i c h.0)) in
       made_by old new (Offers i c m) (Offers i c m) h.1 o q.0 q.1
-  step_made old new (Wants i c None) h o =
-      let q = by_message (Wants i c None) (told old new (Wants i c None) h.1 o) tt (quiet old.inside) in
-      made_by old new (Wants i c None) (Wants i c None) h.1 o q.0 q.1
   step_made old new (Wants i c (Some m)) h o =
       let q = by_message (Wants i c (Some m)) (told old new (Wants i c (Some m)) h.1 o) ((refl, refl), tt) (inputs old.inside c (value_as (channel c) m)) in
       made_by old new (Wants i c (Some m)) (Wants i c (Some m)) h.1 o q.0 q.1
-  step_made old new (Chooses i k c None) h o =
-      let q = by_message (Chooses i k c None) (told old new (Chooses i k c None) h.1 o) tt (quiet old.inside) in
-      made_by old new (Chooses i k c None) (Chooses i k c None) h.1 o q.0 q.1
   step_made old new (Chooses i k c (Some m)) h o =
       let q = by_message (Chooses i k c (Some m)) (told old new (Chooses i k c (Some m)) h.1 o) ((refl, refl), tt) (inputs old.inside c (value_as (channel c) m)) in
       made_by old new (Chooses i k c (Some m)) (Chooses i k c (Some m)) h.1 o q.0 q.1
@@ -123,15 +117,15 @@ module _ (channel : ℕ → ValueKind) (kinds : List ValueKind) where
       let same : message t.0 ≡ message y = sym (carries (channel c) t.0 t.3) ∙ ap (λ z. message (value_as (channel c) z)) (sym t.2) in
       let q = by_message (Meets i j k c m) t.1 ((refl, t.2, t.3), ((refl, refl), (refl, tt))) (exchanges old.inside c t.0 y same) in
       made_by old new (Meets i j k c m) (Meets i j k c m) h.1 o q.0 q.1
-  step_made old new (Rests i) h o =
-      let q = by_message (Rests i) (told old new (Rests i) h.1 o) tt (quiet old.inside) in
-      made_by old new (Rests i) (Rests i) h.1 o q.0 q.1
   step_made old new (Finishes c) h o =
       let q = by_message (Finishes c) (told old new (Finishes c) h o) (refl, tt) (finishes old.inside c) in
       made_by old new (Finishes c) (Finishes c) h o q.0 q.1
   step_made old new (Receives c m) h o =
       let q = by_message (Receives c m) (told old new (Receives c m) h o) ((refl, refl), tt) (inputs old.inside c (value_as (channel c) m)) in
       made_by old new (Receives c m) (Receives c m) h o q.0 q.1
+  step_made old new d h o =
+      let q = by_message d (told old new d h.1 o) tt (quiet old.inside) in
+      made_by old new d d h.1 o q.0 q.1
 
   -- all its steps
   pub record Told (old : Process) (ks : List (ℕ × rendezvous.Comm)) (new : Process) : Type 0 where

@@ -3,7 +3,7 @@ use Rattle.std.proofs.Common.{◌≡◌, ℕ, ◌-◌, ◌<◌, true, List, refl
 use Rattle.std.proofs.lemmas.Bool.Decides.{nat_tests}
 use Rattle.vc_machine.specs.Paths.{AtNode, AtSwitch}
 use Rattle.vc_packets.specs.declared.packet.Packet.{Packet}
-use Rattle.vc_tokens.specs.Tokens.{Token, Byte, Fct, EndMark}
+use Rattle.vc_tokens.specs.Tokens.{Token, EndMark}
 use Rattle.vc_vcp.specs.Carrier.{Carrier}
 use Rattle.vc_vcp.specs.Links.{Vcp, Comes, due, not_due, Sends, SendsFct, unqueued}
 use Rattle.vc_vcp.specs.VcpView.{seen, IsKept}
@@ -32,8 +32,7 @@ came old new l k (not_due is after) = record { into = ap (λ z. z.carrier.into) 
 
 left_queue : (a : Carrier) (l : ℕ) (rest : List Packet) (k : Token) → SameHalves a (unqueued a l rest k)
 left_queue a l rest (EndMark m) = record { into = refl; out = refl }
-left_queue a l rest (Byte b) = record { into = refl; out = refl }
-left_queue a l rest Fct = record { into = refl; out = refl }
+left_queue a l rest t = record { into = refl; out = refl }
 
 sent : (old new : Vcp) (l : ℕ) (k : Token) → Sends old l k new → SameHalves old.carrier new.carrier
 sent old new l k s =

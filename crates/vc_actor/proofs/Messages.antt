@@ -7,9 +7,9 @@ use Rattle.vc_process.specs.declared.datum.Datum.{Datum}
 use Rattle.vc_occam.specs.declared.moves.Move.{Move}
 use Rattle.vc_occam.specs.declared.moves.Move.TheVariants.{Offer, Want, Choose, Stopch, Inner, Quiet}
 use Rattle.vc_occam.specs.First.{own, joined, meetings, first_moves, choices, all_decided}
-use Rattle.vc_occam.specs.Remains.{Rest, Done, Stopped, Fresh, Finishing, Getting, Then, Turns, Beside}
+use Rattle.vc_occam.specs.Remains.{Rest, Fresh, Then, Turns, Beside}
 use Rattle.vc_occam.specs.States.{State, output_at, sent_by, carried}
-use Rattle.vc_process.specs.Syntax.{SKIP, STOP, Assign, Output, Input, StopChan, SEQ, PAR, IF, WHILE, COUNT, ALT, no_parts, part, Guards, no_guards, guard}
+use Rattle.vc_process.specs.Syntax.{SKIP, Assign, Output, Input, StopChan, SEQ, PAR, IF, WHILE, COUNT, ALT, no_parts, Guards, no_guards, guard}
 use Rattle.vc_process.specs.Values.{Store, datum_of}
 
 none : {X : Type 0} (y : X) → Contains {X = X} [] y → ⊥
@@ -31,11 +31,8 @@ either None y (inr h) = h
 -- the site of a move's output
 abbrev sender : Move → Option ℕ
 sender (Offer i c) = Some i
-sender (Want i c) = None
-sender (Choose i k c) = None
-sender (Stopch i c) = None
 sender (Inner i j k c) = Some i
-sender (Quiet i) = None
+sender m = None
 
 -- a move of the list outputs at site i
 abbrev Outputs : List Move → ℕ → Type 0
@@ -75,9 +72,6 @@ fresh_output (Some x) m i j d h s =
 fresh_output None m i j d h s = alone (Quiet j) m i refl h s
 
 own_sends : (r : Rest) (e : Store) (m : Move) (i : ℕ) → Contains (own r e) m → sender m ≡ Some i → is_some (output_at i r e) ≡ true
-own_sends Done e m i h s = absurd (none m h)
-own_sends (Stopped j) e m i h s = absurd (none m h)
-own_sends (Fresh (STOP j)) e m i h s = absurd (none m h)
 own_sends (Fresh (Output j d a)) e m i h s = fresh_output (datum_of a e) m i j d h s
 own_sends (Fresh (Input j d v)) e m i h s = alone (Want j d) m i refl h s
 own_sends (Fresh (StopChan j d)) e m i h s = alone (Stopch j d) m i refl h s
@@ -85,18 +79,15 @@ own_sends (Fresh (ALT j gs)) e m i h s = no_alt (all_decided gs e) (choices j 0 
 own_sends (Fresh (SKIP j)) e m i h s = alone (Quiet j) m i refl h s
 own_sends (Fresh (Assign j v a)) e m i h s = alone (Quiet j) m i refl h s
 own_sends (Fresh (SEQ j no_parts)) e m i h s = alone (Quiet j) m i refl h s
-own_sends (Fresh (SEQ j (part p ps))) e m i h s = absurd (none m h)
 own_sends (Fresh (PAR j no_parts)) e m i h s = alone (Quiet j) m i refl h s
-own_sends (Fresh (PAR j (part p ps))) e m i h s = absurd (none m h)
 own_sends (Fresh (IF j bs)) e m i h s = alone (Quiet j) m i refl h s
 own_sends (Fresh (WHILE j b p)) e m i h s = alone (Quiet j) m i refl h s
 own_sends (Fresh (COUNT j v a n p)) e m i h s = alone (Quiet j) m i refl h s
-own_sends (Finishing j d) e m i h s = absurd (none m h)
-own_sends (Getting j d v) e m i h s = absurd (none m h)
 own_sends (Then r ps) e m i h s = own_sends r e m i h s
 own_sends (Turns r v b n p) e m i h s = own_sends r e m i h s
 own_sends (Beside mine r q) e m i h s =
     either (output_at i r e) (output_at i q e) (elim (Contains-append_cases (own r e) (own q e) m h) [ inl l ↦ inl (own_sends r e m i l s) | inr t ↦ inr (own_sends q e m i t s) ])
+own_sends r e m i h s = absurd (none m h)
 
 first_or : (b : Bool) (x : Move) (ms : List Move) (m : Move) → Contains ((if b then (x ∷ []) else []) ++ ms) m → (x ≡ m) ⊎ Contains ms m
 first_or true x ms m h = head_or_tail x ms m h

@@ -1,5 +1,5 @@
 -- A token that passes from a link's buffer: the process waits for what comes whole, and afterwards wherever its halves count on it.
-use Rattle.std.proofs.Common.{◌≡◌, ◌≢◌, ℕ, Bool, true, false, List, [], ◌∷◌, ◌++◌, Option, Some, None, refl, sym, ap, ◌∙◌, subst}
+use Rattle.std.proofs.Common.{◌≡◌, ◌≢◌, ℕ, Bool, true, false, List, [], ◌∷◌, ◌++◌, Option, Some, refl, sym, ap, ◌∙◌, subst}
 use Rattle.std.specs.List.{Contains}
 use Rattle.vc_packets.specs.declared.packet.Packet.{Packet}
 use Rattle.vc_process.specs.ProcessStep.{Finishes, Receives}
@@ -128,11 +128,7 @@ awaited limit ends old new l taken p (passes_mark m rest what carrier front is a
 own_after : (p q : Process) (taken : Option Taken) → GoesOn does p taken q → OwnSites p.state.rest → OwnSites q.state.rest
 own_after p q (Some (Complete c m)) goes own = doing_keeps p.state q.state (Receives c m) goes.comms goes.does own
 own_after p q (Some (Finished c)) goes own = doing_keeps p.state q.state (Finishes c) goes.comms goes.does own
-own_after p q (Some (Held c)) goes own = subst (λ z. OwnSites z.state.rest) (sym goes) own
-own_after p q (Some (Stored c)) goes own = subst (λ z. OwnSites z.state.rest) (sym goes) own
-own_after p q (Some (More c)) goes own = subst (λ z. OwnSites z.state.rest) (sym goes) own
-own_after p q (Some Stray) goes own = subst (λ z. OwnSites z.state.rest) (sym goes) own
-own_after p q None goes own = subst (λ z. OwnSites z.state.rest) (sym goes) own
+own_after p q o goes own = subst (λ z. OwnSites z.state.rest) (sym goes) own
 
 -- the node's step, and that it stays one of the plan
 pub makes_pass : (plan : Plan) (k : ℕ) (n u : Node) (l : ℕ) (taken : Option Taken) → IsNodeOf plan k n → Passes (limit_of n.vcp.ins) (ends_of n.vcp) (seen n.vcp) l taken (seen u.vcp) →

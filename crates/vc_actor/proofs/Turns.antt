@@ -106,12 +106,8 @@ module _ (plan : network.Plan) (k : ℕ) (n : Node) (room : ℕ) where
   no_route = by_act
     where
       by_act : (a : Act) → kind_of a ≡ Some kind.Route → IsTurn plan k (OfNode n) room a → ⊥
-      by_act (act.Proc m) e t = absurd (cc)
-      by_act (act.Pass l) e t = absurd (cc)
-      by_act (act.Put l) e t = absurd (cc)
-      by_act (act.Fct l) e t = absurd (cc)
       by_act (act.Route i o) e t = t.can
-      by_act (act.Take l w) e t = absurd (cc)
+      by_act a e t = absurd (cc)
 
   -- what a node does: it binds no packet
   pub of_node : (o : Option Act) → FindsOf kind.Pass plan k (OfNode n) room None → FindsOf kind.Put plan k (OfNode n) room None → FindsOf kind.Fct plan k (OfNode n) room None → FindsOf kind.Proc plan k (OfNode n) room o →
@@ -148,11 +144,7 @@ module _ (plan : network.Plan) (k : ℕ) (s : SwitchState) (room : ℕ) where
     where
       by_act : (a : Act) → kind_of a ≡ Some kind.Proc → IsTurn plan k (OfSwitch s) room a → ⊥
       by_act (act.Proc m) e t = t.can
-      by_act (act.Pass l) e t = absurd (cc)
-      by_act (act.Put l) e t = absurd (cc)
-      by_act (act.Fct l) e t = absurd (cc)
-      by_act (act.Route i o) e t = absurd (cc)
-      by_act (act.Take l w) e t = absurd (cc)
+      by_act a e t = absurd (cc)
 
   -- what a switch does: it has no process
   pub of_switch : (o : Option Act) → FindsOf kind.Pass plan k (OfSwitch s) room None → FindsOf kind.Route plan k (OfSwitch s) room None → FindsOf kind.Put plan k (OfSwitch s) room None → FindsOf kind.Fct plan k (OfSwitch s) room o →
@@ -163,12 +155,8 @@ module _ (plan : network.Plan) (k : ℕ) (s : SwitchState) (room : ℕ) where
 -- A turn.
 
 turn_takes_none : (plan : network.Plan) (k : ℕ) (x : Acting) (room : ℕ) (b : Act) → IsTurn plan k x room b → TakesNone b
-turn_takes_none plan k x room (act.Put l) t = tt
-turn_takes_none plan k x room (act.Fct l) t = tt
-turn_takes_none plan k x room (act.Proc m) t = tt
-turn_takes_none plan k x room (act.Pass l) t = tt
 turn_takes_none plan k x room (act.Take l w) t = t.lets
-turn_takes_none plan k x room (act.Route l o) t = tt
+turn_takes_none plan k x room a t = tt
 
 pub turned : (plan : network.Plan) (k : ℕ) (x y : Acting) (room : ℕ) (b : Act) (t : Turn) → IsTurn plan k x room b → IsTold plan k x b t y → MakesTurn plan k x room t y
 turned plan k x y room b turn.Idle is told = absurd (told (turn_takes_none plan k x room b is))

@@ -12,18 +12,14 @@ use Rattle.vc_network.proofs.Descent.{ends}
 use Rattle.vc_switch.specs.Waiting.{Wormhole}
 use Rattle.vc_actor.specs.ActorView.{act_of}
 use Rattle.vc_actor.specs.declared.act.Act.{Act}
-use Rattle.vc_actor.specs.declared.act.Act.TheVariants.{Proc, Take, Put, Route, Fct, Pass}
+use Rattle.vc_actor.specs.declared.act.Act.TheVariants.{Proc}
 use Rattle.vc_core.specs.State.{event_of, shown}
 use Rattle.vc_core.specs.Still.{IsMove, NoMove, EndsWithoutMoves}
 use Rattle.vc_core.specs.declared.event.Event.{Event}
 
 no_move : (a : Act) → (IsMove a → ⊥) → IsNoMove (act_of a)
 no_move (Proc made) h = h tt
-no_move (Take link word) h = tt
-no_move (Put link) h = tt
-no_move (Route input output) h = tt
-no_move (Fct link) h = tt
-no_move (Pass link) h = tt
+no_move a h = tt
 
 no_moves : (later : List Event) → AllByRecursion NoMove later → AllByRecursion (λ e. IsNoMove e.act) (map event_of later)
 no_moves [] h = tt

@@ -218,20 +218,13 @@ record Lets (p : Plan) (s : State) (k : ℕ) (b : Act) (a : Acting) : Type 0 whe
 node_own : (p : Plan) (s : State) (k : ℕ) (b : Act) (n : Node) (u : net.Node Process) → net.NodeStep (network_of p) does k (node_of n) (Own (act_of b)) u → Lets p s k b (OfNode n)
 node_own p s k (act.Proc m) n u h = record { can = (u, h); ways = tt }
 node_own p s k (act.Pass l) n u h = record { can = record { taken = h.0; new = u.vcp; passes = h.1 }; ways = tt }
-node_own p s k (act.Take l x) n u h = absurd h
-node_own p s k (act.Put l) n u h = absurd h
-node_own p s k (act.Fct l) n u h = absurd h
-node_own p s k (act.Route i o) n u h = absurd h
+node_own p s k a n u h = absurd h
 
 node_take : (p : Plan) (s : State) (k : ℕ) (b : Act) (n : Node) (w : ℕ) (t : Token) (rest : List Token) (u : net.Node Process) → IsNetworkOf p s → k < length p.nodes → (shown s).way w ≡ t ∷ rest →
     net.NodeStep (network_of p) does k (node_of n) (Takes (act_of b) w t) u → Lets p s k b (OfNode n)
 node_take p s k (act.Take l x) n w t rest u is less front h =
     record { can = few_into p is.accepted w k l h.0; ways = has_front p s k l w t rest is (subst (IsInto (network_of p) w) (sym (node.port_is (network_of p) k l less)) h.0) front }
-node_take p s k (act.Proc m) n w t rest u is less front h = absurd h
-node_take p s k (act.Pass l) n w t rest u is less front h = absurd h
-node_take p s k (act.Put l) n w t rest u is less front h = absurd h
-node_take p s k (act.Fct l) n w t rest u is less front h = absurd h
-node_take p s k (act.Route i o) n w t rest u is less front h = absurd h
+node_take p s k a n w t rest u is less front h = absurd h
 
 node_put : (p : Plan) (s : State) (k : ℕ) (b : Act) (n : Node) (w : ℕ) (t : Token) (u : net.Node Process) → IsNetworkOf p s → k < length p.nodes →
     net.NodeStep (network_of p) does k (node_of n) (Puts (act_of b) w t) u → Lets p s k b (OfNode n)
@@ -239,10 +232,7 @@ node_put p s k (act.Put l) n w t u is less h =
     record { can = (few_out p is.accepted w k l h.0, record { token = t; new = u.vcp; sends = h.1 }); ways = has_way p s k l w is (subst (IsOutOf (network_of p) w) (sym (node.port_is (network_of p) k l less)) h.0) }
 node_put p s k (act.Fct l) n w t u is less h =
     record { can = (few_out p is.accepted w k l h.0, (u.vcp, h.2)); ways = has_way p s k l w is (subst (IsOutOf (network_of p) w) (sym (node.port_is (network_of p) k l less)) h.0) }
-node_put p s k (act.Proc m) n w t u is less h = absurd h
-node_put p s k (act.Pass l) n w t u is less h = absurd h
-node_put p s k (act.Take l x) n w t u is less h = absurd h
-node_put p s k (act.Route i o) n w t u is less h = absurd h
+node_put p s k a n w t u is less h = absurd h
 
 -- the number of a switch is one
 pub one_number : (p : Plan) (k i j : ℕ) → k ≡ length p.nodes + i → k ≡ length p.nodes + j → j ≡ i
@@ -252,29 +242,19 @@ module _ (p : Plan) (s : State) (k i : ℕ) (x : SwitchState) (at : k ≡ length
   switch_own : (b : Act) (u : Switching) → net.SwitchStep (network_of p) Wormhole i (seen_switch x) (Own (act_of b)) u → Lets p s k b (OfSwitch x)
   switch_own (act.Pass l) u h = record { can = (u, subst (λ m. Passes m (plan_of x) (seen_switch x) l u) (sym of.limit) (subst (λ q. Passes (network.body_limit (network_of p)) q (seen_switch x) l u) (sym of.given) h)); ways = tt }
   switch_own (act.Route l o) u h = record { can = (u, subst (λ q. Routes q Wormhole (seen_switch x) l o u) (sym of.given) h); ways = tt }
-  switch_own (act.Proc m) u h = absurd h
-  switch_own (act.Take l w) u h = absurd h
-  switch_own (act.Put l) u h = absurd h
-  switch_own (act.Fct l) u h = absurd h
+  switch_own a u h = absurd h
 
   switch_take : (b : Act) (w : ℕ) (t : Token) (rest : List Token) (u : Switching) → (shown s).way w ≡ t ∷ rest → net.SwitchStep (network_of p) Wormhole i (seen_switch x) (Takes (act_of b) w t) u → Lets p s k b (OfSwitch x)
   switch_take (act.Take l v) w t rest u front h =
       record { can = (real_into p is.accepted w i l h.0).1; ways = has_front p s k l w t rest is (subst (IsInto (network_of p) w) (sym (switching.port_is (network_of p) k i l at)) h.0) front }
-  switch_take (act.Proc m) w t rest u front h = absurd h
-  switch_take (act.Pass l) w t rest u front h = absurd h
-  switch_take (act.Put l) w t rest u front h = absurd h
-  switch_take (act.Fct l) w t rest u front h = absurd h
-  switch_take (act.Route l o) w t rest u front h = absurd h
+  switch_take a w t rest u front h = absurd h
 
   switch_put : (b : Act) (w : ℕ) (t : Token) (u : Switching) → net.SwitchStep (network_of p) Wormhole i (seen_switch x) (Puts (act_of b) w t) u → Lets p s k b (OfSwitch x)
   switch_put (act.Put l) w t u h =
       record { can = record { token = t; new = u; sends = subst (λ q. Sends q Wormhole (seen_switch x) l t u) (sym of.given) h.1 }; ways = has_way p s k l w is (subst (IsOutOf (network_of p) w) (sym (switching.port_is (network_of p) k i l at)) h.0) }
   switch_put (act.Fct l) w t u h =
       record { can = ((real_out p is.accepted w i l h.0).1, (u, h.2)); ways = has_way p s k l w is (subst (IsOutOf (network_of p) w) (sym (switching.port_is (network_of p) k i l at)) h.0) }
-  switch_put (act.Proc m) w t u h = absurd h
-  switch_put (act.Pass l) w t u h = absurd h
-  switch_put (act.Take l v) w t u h = absurd h
-  switch_put (act.Route l o) w t u h = absurd h
+  switch_put a w t u h = absurd h
 
 -- an actor's step, by what it is
 own_lets : (p : Plan) (s : State) (k : ℕ) (b : Act) (a : Acting) (u : net.Actor Process) → IsNetworkOf p s → IsActorOf (network_of p) k a → Steps p k a (Own (act_of b)) u → Lets p s k b a
@@ -325,22 +305,10 @@ module _ (p : Plan) (acc : IsAccepted p) (i : ℕ) (far : length p.switches ≤ 
   nothing_happens : (label : Label net.Act Token) (u : Switching) → net.SwitchStep (network_of p) Wormhole i new_switch label u → ⊥
   nothing_happens (Own (net.Route l o)) u h = none_leaves (switch_plan (network_of p) i) [] o h.body refl h.group
   nothing_happens (Own (net.Pass l)) u h = none_passes (network.body_limit (network_of p)) (switch_plan (network_of p) i) new_switch u l refl h
-  nothing_happens (Own (net.Proc m)) u h = h
-  nothing_happens (Own (net.Take l x)) u h = h
-  nothing_happens (Own (net.Put l)) u h = h
-  nothing_happens (Own (net.Fct l)) u h = h
   nothing_happens (Takes (net.Take l x) w t) u h = no_way_in w l h.0
-  nothing_happens (Takes (net.Proc m) w t) u h = h
-  nothing_happens (Takes (net.Put l) w t) u h = h
-  nothing_happens (Takes (net.Fct l) w t) u h = h
-  nothing_happens (Takes (net.Pass l) w t) u h = h
-  nothing_happens (Takes (net.Route l o) w t) u h = h
   nothing_happens (Puts (net.Put l) w t) u h = no_way_out w l h.0
   nothing_happens (Puts (net.Fct l) w t) u h = no_way_out w l h.0
-  nothing_happens (Puts (net.Proc m) w t) u h = h
-  nothing_happens (Puts (net.Take l x) w t) u h = h
-  nothing_happens (Puts (net.Pass l) w t) u h = h
-  nothing_happens (Puts (net.Route l o) w t) u h = h
+  nothing_happens d u h = h
 
 -- by what the code finds
 

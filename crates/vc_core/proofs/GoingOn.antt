@@ -1,7 +1,7 @@
 -- What a token that passed brings, the process goes on with.
-use Rattle.std.proofs.Common.{Option, Some, None, refl}
+use Rattle.std.proofs.Common.{Option, Some, refl}
 use Rattle.vc_occam.proofs.GoingOn.{finishes_on, receives_on}
-use Rattle.vc_vcp.specs.Steps.{Taken, Held, Stored, Complete, More, Finished, Stray}
+use Rattle.vc_vcp.specs.Steps.{Taken, Complete, Finished}
 use Rattle.vc_network.specs.Network.{GoesOn}
 use Rattle.vc_actor.specs.Private.Passes.{IsAwaited}
 use Rattle.vc_accepted.specs.Process.{Process, does}
@@ -13,8 +13,4 @@ goes_on p (Some (Complete c m)) (i, h) =
 goes_on p (Some (Finished c)) (i, h) =
     let n = finishes_on p.state i c h in
     (record { inside = p.inside; state = n.1 }, record { comms = n.0; does = n.2; inside = refl })
-goes_on p (Some (Held c)) h = (p, refl)
-goes_on p (Some (Stored c)) h = (p, refl)
-goes_on p (Some (More c)) h = (p, refl)
-goes_on p (Some Stray) h = (p, refl)
-goes_on p None h = (p, refl)
+goes_on p o h = (p, refl)

@@ -22,27 +22,15 @@ use Rattle.vc_actor.specs.declared.act.Act.TheVariants as act
 -- what takes a token is a take
 abbrev IsTake : net.Act → Type 0
 IsTake (net.Take l x) = Unit {0}
-IsTake (net.Proc m) = ⊥
-IsTake (net.Put l) = ⊥
-IsTake (net.Route i o) = ⊥
-IsTake (net.Fct l) = ⊥
-IsTake (net.Pass l) = ⊥
+IsTake x = ⊥
 
 node_takes : (plan : network.Plan) (k : ℕ) (a b : net.Node Process) (c : net.Act) (w : ℕ) (t : Token) → net.NodeStep plan does k a (Takes c w t) b → IsTake c
 node_takes plan k a b (net.Take l x) w t h = tt
-node_takes plan k a b (net.Proc m) w t h = h
-node_takes plan k a b (net.Put l) w t h = h
-node_takes plan k a b (net.Route i o) w t h = h
-node_takes plan k a b (net.Fct l) w t h = h
-node_takes plan k a b (net.Pass l) w t h = h
+node_takes plan k a b x w t h = h
 
 switch_takes : (plan : network.Plan) (i : ℕ) (a b : Switch) (c : net.Act) (w : ℕ) (t : Token) → net.SwitchStep plan Wormhole i a (Takes c w t) b → IsTake c
 switch_takes plan i a b (net.Take l x) w t h = tt
-switch_takes plan i a b (net.Proc m) w t h = h
-switch_takes plan i a b (net.Put l) w t h = h
-switch_takes plan i a b (net.Route j o) w t h = h
-switch_takes plan i a b (net.Fct l) w t h = h
-switch_takes plan i a b (net.Pass l) w t h = h
+switch_takes plan i a b x w t h = h
 
 actor_takes : (plan : network.Plan) (k : ℕ) (a b : net.Actor Process) (c : net.Act) (w : ℕ) (t : Token) → net.Local plan Wormhole does k a (Takes c w t) b → IsTake c
 actor_takes plan k (net.IsNode a) (net.IsNode b) c w t h = node_takes plan k a b c w t h.1
@@ -52,11 +40,7 @@ actor_takes plan k (net.IsSwitch a) (net.IsNode b) c w t h = absurd h
 
 no_take : (b : Act) → TakesNone b → IsTake (act_of b) → ⊥
 no_take (act.Take l x) none is = none
-no_take (act.Proc m) none is = is
-no_take (act.Put l) none is = is
-no_take (act.Route i o) none is = is
-no_take (act.Fct l) none is = is
-no_take (act.Pass l) none is = is
+no_take a none is = is
 
 -- an act that takes no token depends on its own actor alone
 module _ (plan : network.Plan) (s t : Network (net.Actor Process) Token) (k : ℕ) (same : t.state k ≡ s.state k) (b : Act) (none : TakesNone b) where

@@ -21,7 +21,7 @@ use Rattle.vc_machine.specs.PacketsOfTokens.{read, passed_on, input_of, seen}
 use Rattle.vc_machine.specs.Still.{MovesTokens, IsStill, IsClear}
 use Rattle.vc_machine.specs.TokenMachine as tok
 use Rattle.vc_machine.specs.TokenMachine.{TokenEvent, TokenStep}
-use Rattle.vc_machine.proofs.Labels.{Phase, Calm, Coming, Waiting, Returning, PhaseFits}
+use Rattle.vc_machine.proofs.Labels.{Phase, Waiting, PhaseFits}
 use Rattle.vc_machine.proofs.Ownership.{all_both}
 use Rattle.vc_machine.proofs.Still.{still_is_clear}
 use Rattle.vc_network.specs.Actors.{Network}
@@ -279,10 +279,8 @@ held_one plan s c (suc d) h = held_next plan s c d (held_one plan s c d) ((vcps 
 
 -- where a piece is held no process inputs
 unasked : (ch : Channel) (f : Phase) (x : ChanState) (n : ℕ) (q : Packet) → PhaseFits ch f x n → x.held ≡ Some q → x.wants ≡ false
-unasked ch Calm x n q h e = absurd (let k : None ≡ Some q = sym h.1 ∙ e in cc)
-unasked ch Coming x n q h e = absurd (let k : None ≡ Some q = sym h.1 ∙ e in cc)
 unasked ch Waiting x n q h e = h.2
-unasked ch Returning x n q h e = absurd (let k : None ≡ Some q = sym h.1 ∙ e in cc)
+unasked ch y x n q h e = absurd (let k : None ≡ Some q = sym h.1 ∙ e in cc)
 
 module _ (p : Plan) (made : List Event) (s : State) (ranks : HasRanks p) (r : Reached p made s) (only : OnlyMoves p s) where
   abbrev M : network.Plan

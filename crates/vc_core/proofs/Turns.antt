@@ -49,54 +49,40 @@ way_few s k l f = few_at s.wiring k l f.way f.out
 abbrev pub FewLinks : Act → Type 0
 FewLinks (act.Put l) = l < 32
 FewLinks (act.Fct l) = l < 32
-FewLinks (act.Proc m) = Unit {0}
-FewLinks (act.Pass l) = Unit {0}
-FewLinks (act.Take l w) = Unit {0}
-FewLinks (act.Route l o) = Unit {0}
+FewLinks a = Unit {0}
 
 pub few_links : (x : Acting) (b : Act) → MayAct x b → FewLinks b
 few_links (OfNode n) (act.Put l) may = let few = may.0 in omega arith
 few_links (OfNode n) (act.Fct l) may = let few = may.0 in omega arith
-few_links (OfNode n) (act.Proc m) may = tt
-few_links (OfNode n) (act.Pass l) may = tt
-few_links (OfNode n) (act.Take l w) may = tt
-few_links (OfNode n) (act.Route l o) may = tt
 few_links (OfSwitch s) (act.Put l) may = may.links
 few_links (OfSwitch s) (act.Fct l) may = may.links
 few_links (OfSwitch s) (act.Proc m) may = tt
 few_links (OfSwitch s) (act.Pass l) may = tt
 few_links (OfSwitch s) (act.Take l w) may = tt
 few_links (OfSwitch s) (act.Route l o) may = tt
+few_links (OfNode n) a may = tt
 
 -- the ways let what the room lets
 module _ (s : State) (k room : ℕ) (bits : (link : ℕ) → link < 32 → (bit_at room link ≡ 1) ↔ HasWay s k link) where
   lets_by : (b : Act) → TakesNone b → WaysLet s k b → RoomLets room b
   lets_by (act.Put l) none ways = (bits l (way_few s k l ways)).1 ways
   lets_by (act.Fct l) none ways = (bits l (way_few s k l ways)).1 ways
-  lets_by (act.Proc m) none ways = tt
-  lets_by (act.Pass l) none ways = tt
   lets_by (act.Take l w) none ways = none
-  lets_by (act.Route l o) none ways = tt
+  lets_by a none ways = tt
 
   pub ways_by : (b : Act) → FewLinks b → RoomLets room b → WaysLet s k b
   ways_by (act.Put l) few lets = (bits l few).0 lets
   ways_by (act.Fct l) few lets = (bits l few).0 lets
-  ways_by (act.Proc m) few lets = tt
-  ways_by (act.Pass l) few lets = tt
   ways_by (act.Take l w) few lets = absurd lets
-  ways_by (act.Route l o) few lets = tt
+  ways_by a few lets = tt
 
 module _ (p : Plan) (s : State) (k room : ℕ) (bits : (link : ℕ) → link < 32 → (bit_at room link ≡ 1) ↔ HasWay s k link) (is : IsNetworkOf p s) where
   abbrev event : Act → Event
   event b = record { actor = k; act = b }
 
   takes_none : (b : Act) → RoomLets room b → TakesNone b
-  takes_none (act.Put l) lets = tt
-  takes_none (act.Fct l) lets = tt
-  takes_none (act.Proc m) lets = tt
-  takes_none (act.Pass l) lets = tt
   takes_none (act.Take l w) lets = lets
-  takes_none (act.Route l o) lets = tt
+  takes_none a lets = tt
 
   pub some_event : (a : Acting) → slice_get s.actors k ≡ Some a → (b : Act) → FewLinks b → IsTurn (network_of p) k a room b → FindsEvent p s k (Some (record { actor = k; act = b }))
   some_event a here b few t = (refl, takes_none b t.lets, happens p s (event b) a is here t.can (ways_by s k room bits b few t.lets))
@@ -110,11 +96,7 @@ module _ (p : Plan) (s : State) (k room : ℕ) (bits : (link : ℕ) → link < 3
 
   takes_of : (z : ActKind) (b : Act) → kind_of b ≡ Some z → TakesNone b
   takes_of z (act.Take l w) e = absurd (cc)
-  takes_of z (act.Put l) e = tt
-  takes_of z (act.Fct l) e = tt
-  takes_of z (act.Proc m) e = tt
-  takes_of z (act.Pass l) e = tt
-  takes_of z (act.Route l o) e = tt
+  takes_of z a e = tt
 
   pub no_event_of : (z : ActKind) (a : Acting) → slice_get s.actors k ≡ Some a → FindsOf z (network_of p) k a room None → FindsEventOf z p s k None
   no_event_of z a here none b e can =
@@ -154,11 +136,7 @@ at_rest p s is rests e can = by_act e.act can
 
     by_act : (b : Act) → CanHappen p s (record { actor = e.actor; act = b }) → ⊥
     by_act (act.Take l w) can = quiet.takes l w can
-    by_act (act.Proc m) can = quiet.acts (act.Proc m) tt can
-    by_act (act.Pass l) can = quiet.acts (act.Pass l) tt can
-    by_act (act.Put l) can = quiet.acts (act.Put l) tt can
-    by_act (act.Fct l) can = quiet.acts (act.Fct l) tt can
-    by_act (act.Route i o) can = quiet.acts (act.Route i o) tt can
+    by_act a can = quiet.acts a tt can
 
 -- nothing remains of any process, as the code keeps them
 pub ended : (p : Plan) (s : State) → IsNetworkOf p s → ((k : ℕ) (a : Acting) → slice_get s.actors k ≡ Some a → IsDone a) ↔ AllHaveEnded p s

@@ -4,7 +4,7 @@ use Rattle.std.specs.Prelude.{option_map}
 use Rattle.std.specs.Option.{is_some, option_or}
 use Rattle.std.proofs.lemmas.Bool.{false≢true}
 use Rattle.vc_process.specs.Lawful.{Lawfully, LawfullyAll, LawfullyBranches, LawfullyGuards, Shared, SideBySide, With, inputs, outputs}
-use Rattle.vc_process.specs.Syntax.{Proc, SKIP, STOP, Assign, Output, Input, StopChan, SEQ, PAR, IF, WHILE, COUNT, ALT, Procs, no_parts, part, Branches, no_branches, branch, Guards, no_guards, guard}
+use Rattle.vc_process.specs.Syntax.{Proc, SEQ, PAR, IF, WHILE, COUNT, ALT, Procs, no_parts, part, Branches, no_branches, branch, Guards, no_guards, guard}
 use Rattle.vc_process.specs.Usage.{Set, changes, uses}
 use Rattle.vc_reader.specs.declared.path.Step.{Step}
 use Rattle.vc_reader.specs.declared.path.Step.TheVariants.{Field, Index}
@@ -142,12 +142,6 @@ index_kept (Some w) at v p h =
 module _ (n : Named) where
   mutual
     nothing : (p : Proc) (at : List Step) → Lawfully p → is_some (offence n p at) ≡ false
-    nothing (SKIP i) at l = refl
-    nothing (STOP i) at l = refl
-    nothing (Assign i v a) at l = refl
-    nothing (Output i c a) at l = refl
-    nothing (Input i c v) at l = refl
-    nothing (StopChan i c) at l = refl
     nothing (SEQ i ps) at l = nothing_in word.Seq at 0 ps l
     nothing (PAR i ps) at l =
         neither (own_offence n (PAR i ps, at)) (first_of (own_offence n) (within_parts word.Par at 0 ps))
@@ -157,6 +151,7 @@ module _ (n : Named) where
     nothing (COUNT i v a k p) at l =
         neither (own_offence n (COUNT i v a k p, at)) (first_of (own_offence n) (within p (at ++ Field word.For ∷ Index 3 ∷ []))) (index_kept n.var at v p l.0) (nothing p (at ++ Field word.For ∷ Index 3 ∷ []) l.1)
     nothing (ALT i gs) at l = nothing_in_guards at 0 gs l
+    nothing p at l = refl
 
     nothing_in : (w : Word) (at : List Step) (k : ℕ) (ps : Procs) → LawfullyAll ps → is_some (first_of (own_offence n) (within_parts w at k ps)) ≡ false
     nothing_in w at k no_parts l = refl

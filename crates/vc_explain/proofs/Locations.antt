@@ -10,7 +10,7 @@ use Rattle.vc_process.specs.declared.process.Process.TheVariants as process
 use Rattle.vc_process.specs.InOrder.{number}
 use Rattle.vc_process.specs.Private.InOrder.{number_branch, number_guard}
 use Rattle.vc_process.specs.Numbering.{Numbered, NumberedBranch, NumberedGuard, branches_from, guards_from, parts_from}
-use Rattle.vc_process.specs.Syntax.{Proc, SKIP, STOP, Assign, Output, Input, StopChan, SEQ, PAR, IF, WHILE, COUNT, ALT}
+use Rattle.vc_process.specs.Syntax.{Proc, SEQ, PAR, IF, WHILE, COUNT, ALT}
 use Rattle.vc_process.proofs.Numbers.{number_seq, number_par, number_if, number_while, number_count, number_alt, otherwise}
 use Rattle.vc_reader.specs.declared.path.Step.{Step}
 use Rattle.vc_reader.specs.declared.path.Step.TheVariants.{Field, Index}
@@ -21,18 +21,13 @@ use Rattle.vc_explain.proofs.Sought.{Opens, first_append}
 
 -- found by the process itself
 pub found_here : {B : Type 0} (f : Located → Option B) (p : Proc) (at : List Step) (x : B) → Some x ≡ f (p, at) → Some x ≡ first_of f (within p at)
-found_here f (SKIP i) at x h = ap (λ o. option_or o None) h
-found_here f (STOP i) at x h = ap (λ o. option_or o None) h
-found_here f (Assign i v a) at x h = ap (λ o. option_or o None) h
-found_here f (Output i c a) at x h = ap (λ o. option_or o None) h
-found_here f (Input i c v) at x h = ap (λ o. option_or o None) h
-found_here f (StopChan i c) at x h = ap (λ o. option_or o None) h
 found_here f (SEQ i ps) at x h = ap (λ o. option_or o (first_of f (within_parts word.Seq at 0 ps))) h
 found_here f (PAR i ps) at x h = ap (λ o. option_or o (first_of f (within_parts word.Par at 0 ps))) h
 found_here f (IF i bs) at x h = ap (λ o. option_or o (first_of f (within_branches at 0 bs))) h
 found_here f (WHILE i t p) at x h = ap (λ o. option_or o (first_of f (within p (at ++ Field word.While ∷ Index 1 ∷ [])))) h
 found_here f (COUNT i v a n p) at x h = ap (λ o. option_or o (first_of f (within p (at ++ Field word.For ∷ Index 3 ∷ [])))) h
 found_here f (ALT i gs) at x h = ap (λ o. option_or o (first_of f (within_guards at 0 gs))) h
+found_here f p at x h = ap (λ o. option_or o None) h
 
 -- the process itself, in which nothing is found
 abbrev pub Nothing : {B : Type 0} → (Located → Option B) → Process → List Step → Type 0

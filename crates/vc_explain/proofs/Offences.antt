@@ -5,7 +5,7 @@ use Rattle.std.specs.Option.{is_some, option_or}
 use Rattle.std.proofs.lemmas.Bool.{false≢true}
 use Rattle.std.proofs.lemmas.Map.Views.{exact_unsigned_eq}
 use Rattle.vc_process.specs.Lawful.{FirstOfAll, FirstOfBranches, FirstOfGuards, FirstOffence, Offence, Offends, Shared, With, at_count, at_par, by_input, by_output, by_variable, channel, in_alt, in_count, in_if, in_par, in_seq, in_while, inputs, later_branch, later_guard, later_part, outputs, this_branch, this_guard, this_part, variable}
-use Rattle.vc_process.specs.Syntax.{Proc, SKIP, STOP, Assign, Output, Input, StopChan, SEQ, PAR, IF, WHILE, COUNT, ALT, Procs, no_parts, part, Branches, no_branches, branch, Guards, no_guards, guard}
+use Rattle.vc_process.specs.Syntax.{Proc, Assign, Output, SEQ, PAR, IF, WHILE, COUNT, ALT, Procs, no_parts, part, Branches, no_branches, branch, Guards, no_guards, guard}
 use Rattle.vc_process.specs.Usage.{Set, changes, changes_all, changes_branches, changes_guards, in_exp, in_given, in_test, uses, uses_all, uses_branches, uses_guards}
 use Rattle.vc_reader.specs.declared.path.Step.{Step}
 use Rattle.vc_reader.specs.declared.path.Step.TheVariants.{Field, Index}
@@ -123,12 +123,8 @@ or_right a b h = ap (λ c. a || c) h ∙ or_true a
 module _ (k : ℕ) where
   mutual
     changed : (p : Proc) → changes p k ≡ true → uses p k ≡ true
-    changed (SKIP i) h = h
-    changed (STOP i) h = h
     changed (Assign i v a) h = or_left (k == v) (in_given a k) h
     changed (Output i c a) h = absurd (false≢true h)
-    changed (Input i c v) h = h
-    changed (StopChan i c) h = h
     changed (SEQ i ps) h = changed_parts ps h
     changed (PAR i ps) h = changed_parts ps h
     changed (IF i bs) h = changed_branches bs h
@@ -137,6 +133,7 @@ module _ (k : ℕ) where
         let own = (k == v) || (in_exp a k || in_exp n k) in
         in_one (k == v) (changes p k) (own || uses p k) (λ e. or_left own (uses p k) (or_left (k == v) (in_exp a k || in_exp n k) e)) (λ e. or_right own (uses p k) (changed p e)) h
     changed (ALT i gs) h = changed_guards gs h
+    changed p h = h
 
     changed_parts : (ps : Procs) → changes_all ps k ≡ true → uses_all ps k ≡ true
     changed_parts no_parts h = h
@@ -177,12 +174,6 @@ index_changes n at v p names h =
 module _ (n : Named) where
   mutual
     found : (p : Proc) (x : Offence) (at : List Step) → FirstOffence p x → Names n x → is_some (offence n p at) ≡ true
-    found (SKIP i) x at h names = elim h [ ]
-    found (STOP i) x at h names = elim h [ ]
-    found (Assign i v a) x at h names = elim h [ ]
-    found (Output i c a) x at h names = elim h [ ]
-    found (Input i c v) x at h names = elim h [ ]
-    found (StopChan i c) x at h names = elim h [ ]
     found (SEQ i ps) x at (in_seq h) names = found_parts word.Seq at 0 ps x h names
     found (PAR i ps) x at (at_par h) names = some_left (own_offence n (PAR i ps, at)) (first_of (own_offence n) (within_parts word.Par at 0 ps)) (parts_offend n at ps x h names)
     found (PAR i ps) x at (in_par side h) names = some_right (own_offence n (PAR i ps, at)) (first_of (own_offence n) (within_parts word.Par at 0 ps)) (found_parts word.Par at 0 ps x h names)
@@ -191,6 +182,7 @@ module _ (n : Named) where
     found (COUNT i v a k p) x at (at_count h) names = some_left (own_offence n (COUNT i v a k p, at)) (first_of (own_offence n) (within p (at ++ Field word.For ∷ Index 3 ∷ []))) (index_changes n at v p names h)
     found (COUNT i v a k p) x at (in_count none h) names = some_right (own_offence n (COUNT i v a k p, at)) (first_of (own_offence n) (within p (at ++ Field word.For ∷ Index 3 ∷ []))) (found p x (at ++ Field word.For ∷ Index 3 ∷ []) h names)
     found (ALT i gs) x at (in_alt h) names = found_guards at 0 gs x h names
+    found p x at h names = elim h [ ]
 
     found_parts : (l : Word) (at : List Step) (k : ℕ) (ps : Procs) (x : Offence) → FirstOfAll ps x → Names n x → is_some (first_of (own_offence n) (within_parts l at k ps)) ≡ true
     found_parts l at k no_parts x h names = elim h [ ]

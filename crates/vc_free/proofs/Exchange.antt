@@ -10,7 +10,7 @@ use Rattle.vc_free.proofs.Places.{Arrived, happened}
 use Rattle.vc_free.proofs.Stages.{State, got_more, finished_more, IsAt, stays_there, comes, ended, leads}
 use Rattle.vc_free.specs.Delivery.{HasDelivered}
 use Rattle.vc_machine.proofs.Basics.{put-same, put-other}
-use Rattle.vc_machine.proofs.Labels.{Phase, Calm, Coming, Waiting as WaitingPhase, Returning, PhaseFits}
+use Rattle.vc_machine.proofs.Labels.{Phase, Waiting as WaitingPhase, PhaseFits}
 use Rattle.vc_machine.specs.Machine.{ChanState}
 use Rattle.vc_machine.specs.Paths.{Channel}
 use Rattle.vc_machine.specs.Rendezvous.{View}
@@ -44,10 +44,8 @@ next_one (z ∷ zs) rest x y e = next_one zs rest x y (let h : (zs ++ x ∷ []) 
 
 -- a piece that is held is of a message that is not taken
 not_taken : (ch : Channel) (f : Phase) (x : ChanState) (n : ℕ) (q : Packet) → PhaseFits ch f x n → x.held ≡ Some q → x.taken ≡ x.offered → ⊥
-not_taken ch Calm x n q h e s = let k : None ≡ Some q = sym h.1 ∙ e in absurd cc
-not_taken ch Coming x n q h e s = let k : None ≡ Some q = sym h.1 ∙ e in absurd cc
 not_taken ch WaitingPhase x n q h e s = let g = h.3 in no_longer x.taken g.message (s ∙ g.offered)
-not_taken ch Returning x n q h e s = let k : None ≡ Some q = sym h.1 ∙ e in absurd cc
+not_taken ch y x n q h e s = let k : None ≡ Some q = sym h.1 ∙ e in absurd cc
 
 module _ (p : Plan) (waiting : Waiting) (acc : IsAccepted p) where
   abbrev N : network.Plan

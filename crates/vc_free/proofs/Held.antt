@@ -8,7 +8,7 @@ use Rattle.vc_accepted.specs.NetworkOf.{network_of}
 use Rattle.vc_accepted.specs.Process.{Process}
 use Rattle.vc_core.specs.Still.{IsHeld, IsUnasked}
 use Rattle.vc_free.specs.Delivery.{in_half, IsThrough}
-use Rattle.vc_machine.proofs.Labels.{Phase, Calm, Coming, Waiting, Returning, PhaseFits}
+use Rattle.vc_machine.proofs.Labels.{Phase, Waiting, PhaseFits}
 use Rattle.vc_machine.proofs.Ownership.{all_both}
 use Rattle.vc_machine.specs.Links.{Tokens}
 use Rattle.vc_machine.specs.Machine.{ChanState}
@@ -59,10 +59,8 @@ held_one plan s c (suc d) h = held_next plan s c d (held_one plan s c d) ((vcps 
 
 -- where a piece is held no process inputs
 no_input : (ch : Channel) (f : Phase) (x : ChanState) (n : ℕ) (q : Packet) → PhaseFits ch f x n → x.held ≡ Some q → x.wants ≡ false
-no_input ch Calm x n q h e = absurd (let k : None ≡ Some q = sym h.1 ∙ e in cc)
-no_input ch Coming x n q h e = absurd (let k : None ≡ Some q = sym h.1 ∙ e in cc)
 no_input ch Waiting x n q h e = h.2
-no_input ch Returning x n q h e = absurd (let k : None ≡ Some q = sym h.1 ∙ e in cc)
+no_input ch y x n q h e = absurd (let k : None ≡ Some q = sym h.1 ∙ e in cc)
 
 -- what is all of a list leaves nothing
 none_left : (xs rest ys : List (List ℕ)) → xs ++ rest ≡ ys → length ys ≤ length xs → xs ≡ ys

@@ -18,11 +18,10 @@ use Rattle.vc_vcp.specs.Steps.{Fetches, Taken, Held, Stored, Complete, More, Fin
 use Rattle.vc_vcp.specs.Steps as steps
 use Rattle.vc_network.specs.Actors.{Label}
 use Rattle.vc_network.specs.Actors.Label.{Own, Takes, Puts}
-use Rattle.vc_network.specs.Network.{Act, Proc, Take, Put, Route, Fct, Pass, Node, GoesOn, Moves, NodeStep}
+use Rattle.vc_network.specs.Network.{Act, Proc, Take, Put, Fct, Pass, Node, GoesOn, Moves, NodeStep}
 use Rattle.vc_network.specs.Plan.{Plan}
 use Rattle.vc_network.specs.Processes as moves
-use Rattle.vc_tokens.specs.Tokens.{Token, Byte, EndMark}
-use Rattle.vc_tokens.specs.Tokens as tokens
+use Rattle.vc_tokens.specs.Tokens.{Token, EndMark}
 use Rattle.vc_accepted.specs.Process.{Process, Awaits, does, Goes}
 
 -- a process waits wherever the halves of its channels count on it
@@ -34,11 +33,7 @@ pub record InStep (a : Carrier) (p : Process) : Type 0 where
 abbrev pub IsAwaited : Process → Option Taken → Type 0
 IsAwaited p (Some (Complete c m)) = (i : ℕ) × Awaits p (input i c)
 IsAwaited p (Some (Finished c)) = (i : ℕ) × Awaits p (output i c)
-IsAwaited p (Some (Held c)) = Unit {0}
-IsAwaited p (Some (Stored c)) = Unit {0}
-IsAwaited p (Some (More c)) = Unit {0}
-IsAwaited p (Some Stray) = Unit {0}
-IsAwaited p None = Unit {0}
+IsAwaited p o = Unit {0}
 
 -- where a half is busy, a site waits for it
 abbrev Has : {X : Type 0} → (X → Type 0) → (ℕ → ℕ → Waiting) → (ℕ → X) → List Waiting → Type 0
@@ -221,11 +216,7 @@ goes_on p (Some (Complete c m)) (i, h) =
 goes_on p (Some (Finished c)) (i, h) =
     let n = finishes_on p.state i c h in
     (record { inside = p.inside; state = n.1 }, record { comms = n.0; does = n.2; inside = refl })
-goes_on p (Some (Held c)) h = (p, refl)
-goes_on p (Some (Stored c)) h = (p, refl)
-goes_on p (Some (More c)) h = (p, refl)
-goes_on p (Some Stray) h = (p, refl)
-goes_on p None h = (p, refl)
+goes_on p o h = (p, refl)
 
 -- ---- steps of the node
 
@@ -282,8 +273,7 @@ module _ (plan : Plan) (n : ℕ) (a b : Node Process) (h : InStep a.vcp.carrier 
 
   unqueued_halves : (x : Carrier) (l : ℕ) (rest : List Packet) (k : Token) → ((unqueued x l rest k).into ≡ x.into) × ((unqueued x l rest k).out ≡ x.out)
   unqueued_halves x l rest (EndMark m) = (refl, refl)
-  unqueued_halves x l rest (Byte y) = (refl, refl)
-  unqueued_halves x l rest tokens.Fct = (refl, refl)
+  unqueued_halves x l rest t = (refl, refl)
 
   sent : (l : ℕ) (k : Token) → links.Sends a.vcp l k b.vcp → b.process ≡ a.process → InStep b.vcp.carrier b.process
   sent l k s same =
@@ -293,19 +283,7 @@ module _ (plan : Plan) (n : ℕ) (a b : Node Process) (h : InStep a.vcp.carrier 
   pub stays_in_step : (label : Label Act Token) → NodeStep plan does n a label b → InStep b.vcp.carrier b.process
   stays_in_step (Own (Proc m)) step = moved m step
   stays_in_step (Own (Pass l)) (taken, passes, goes, inner) = passed _ _ a.vcp b.vcp l taken a.process b.process passes goes h
-  stays_in_step (Own (Take l word)) step = absurd step
-  stays_in_step (Own (Put l)) step = absurd step
-  stays_in_step (Own (Route i o)) step = absurd step
-  stays_in_step (Own (Fct l)) step = absurd step
   stays_in_step (Takes (Take l word) w k) (into, comes, rest) = came l k comes rest.process
-  stays_in_step (Takes (Proc m) w k) step = absurd step
-  stays_in_step (Takes (Put l) w k) step = absurd step
-  stays_in_step (Takes (Route i o) w k) step = absurd step
-  stays_in_step (Takes (Fct l) w k) step = absurd step
-  stays_in_step (Takes (Pass l) w k) step = absurd step
   stays_in_step (Puts (Put l) w k) (out, sends, rest) = sent l k sends rest.process
   stays_in_step (Puts (Fct l) w k) (out, fct, sends, rest) = unmoved a.vcp.carrier b.vcp.carrier a.process b.process (ap (λ z. z.carrier.into) sends.after) (ap (λ z. z.carrier.out) sends.after) rest.process h
-  stays_in_step (Puts (Proc m) w k) step = absurd step
-  stays_in_step (Puts (Take l word) w k) step = absurd step
-  stays_in_step (Puts (Route i o) w k) step = absurd step
-  stays_in_step (Puts (Pass l) w k) step = absurd step
+  stays_in_step d step = absurd step

@@ -133,12 +133,9 @@ module _ (ρ : ℕ → ℕ) where
 
   mutual
     uses_of : {p q : Proc} → Renamed ρ p q → Of (uses p) (uses q)
-    uses_of skips = none_of
-    uses_of never = none_of
     uses_of (assigns {v = v} {a = a}) = or_of (just v) (just (ρ v)) (in_given a) (in_given (renamed_given ρ a)) (just_of v) (given_of a)
     uses_of (outputs {a = a}) = given_of a
     uses_of (inputs {v = v}) = just_of v
-    uses_of stops = none_of
     uses_of (in_turn h) = all_of h
     uses_of (abreast h) = all_of h
     uses_of (one_of h) = branches_of h
@@ -147,6 +144,7 @@ module _ (ρ : ℕ → ℕ) where
         or_of (just v ∪ (in_exp a ∪ in_exp n)) (just (ρ v) ∪ (in_exp (renamed_exp ρ a) ∪ in_exp (renamed_exp ρ n))) (uses p) (uses q)
         (or_of (just v) (just (ρ v)) (in_exp a ∪ in_exp n) (in_exp (renamed_exp ρ a) ∪ in_exp (renamed_exp ρ n)) (just_of v) (or_of (in_exp a) (in_exp (renamed_exp ρ a)) (in_exp n) (in_exp (renamed_exp ρ n)) (exp_of a) (exp_of n))) (uses_of h)
     uses_of (chooses h) = guards_of h
+    uses_of x = none_of
 
     all_of : {ps qs : Procs} → AllRenamed ρ ps qs → Of (uses_all ps) (uses_all qs)
     all_of no_part = none_of

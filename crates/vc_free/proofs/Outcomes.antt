@@ -6,14 +6,13 @@ use Rattle.vc_accepted.specs.Process.{Process, does, Goes}
 use Rattle.vc_machine.proofs.Basics.{put-same, put-other}
 use Rattle.vc_network.specs.Actors.{Label, act_of}
 use Rattle.vc_network.specs.Actors.Label.{Own, Takes, Puts}
-use Rattle.vc_network.specs.Network.{Act, Proc, Take, Put, Route, Fct, Pass, Node, GoesOn, NodeStep}
+use Rattle.vc_network.specs.Network.{Act, Proc, Take, Put, Fct, Pass, Node, GoesOn, NodeStep}
 use Rattle.vc_network.specs.Plan.{Plan, ends, body_limit}
 use Rattle.vc_network.specs.Still.{IsNoMove}
 use Rattle.vc_packets.specs.Functions.{put}
 use Rattle.vc_packets.specs.declared.packet.Packet.{Packet}
 use Rattle.vc_process.specs.ProcessStep.{Finishes, Receives}
-use Rattle.vc_tokens.specs.Tokens.{Token, Byte, EndMark}
-use Rattle.vc_tokens.specs.Tokens as tokens
+use Rattle.vc_tokens.specs.Tokens.{Token, EndMark}
 use Rattle.vc_vcp.specs.Carrier.{End, Ends, OutHalf, InHalf, Carrier}
 use Rattle.vc_vcp.specs.Links.{passes_byte, drops_byte, passes_mark, unqueued}
 use Rattle.vc_vcp.specs.Links as links
@@ -114,8 +113,7 @@ module _ (ends : Ends) (a b : Carrier) (p q : Process) where
 
 unqueued_halves : (x : Carrier) (l : ℕ) (rest : List Packet) (k : Token) → ((unqueued x l rest k).into ≡ x.into) × ((unqueued x l rest k).out ≡ x.out)
 unqueued_halves x l rest (EndMark m) = (refl, refl)
-unqueued_halves x l rest (Byte y) = (refl, refl)
-unqueued_halves x l rest tokens.Fct = (refl, refl)
+unqueued_halves x l rest t = (refl, refl)
 
 module _ (plan : Plan) (n : ℕ) (a b : Node Process) where
   abbrev Result : Type 0
@@ -138,21 +136,9 @@ module _ (plan : Plan) (n : ℕ) (a b : Node Process) where
   pub outcome : (label : Label Act Token) → IsNoMove (act_of label) → NodeStep plan does n a label b → Result
   outcome (Own (Proc m)) none step = absurd none
   outcome (Own (Pass l)) none (taken, passes, goes, inner) = (passed l taken passes goes, inner)
-  outcome (Own (Take l word)) none step = absurd step
-  outcome (Own (Put l)) none step = absurd step
-  outcome (Own (Route i o)) none step = absurd step
-  outcome (Own (Fct l)) none step = absurd step
   outcome (Takes (Take l word) w k) none (into, comes, rest) = (came l k comes rest.process, rest.inner)
-  outcome (Takes (Proc m) w k) none step = absurd step
-  outcome (Takes (Put l) w k) none step = absurd step
-  outcome (Takes (Route i o) w k) none step = absurd step
-  outcome (Takes (Fct l) w k) none step = absurd step
-  outcome (Takes (Pass l) w k) none step = absurd step
   outcome (Puts (Put l) w k) none (out, sends, rest) =
       let u = unqueued_halves a.vcp.carrier l sends.rest k in
       (same (ap (λ z. z.carrier.into) sends.after ∙ u.0) (ap (λ z. z.carrier.out) sends.after ∙ u.1) rest.process, rest.inner)
   outcome (Puts (Fct l) w k) none (out, fct, sends, rest) = (same (ap (λ z. z.carrier.into) sends.after) (ap (λ z. z.carrier.out) sends.after) rest.process, rest.inner)
-  outcome (Puts (Proc m) w k) none step = absurd step
-  outcome (Puts (Take l word) w k) none step = absurd step
-  outcome (Puts (Route i o) w k) none step = absurd step
-  outcome (Puts (Pass l) w k) none step = absurd step
+  outcome d none step = absurd step

@@ -20,9 +20,10 @@ use Rattle.vc_occam.proofs.Determinate.{finishing_one}
 use Rattle.vc_occam.proofs.Insertion.{is_inserted}
 use Rattle.vc_occam.proofs.Preservation.{lawful, step_uses}
 use Rattle.vc_occam.proofs.SiteMoves.{want_own, choose_own}
-use Rattle.vc_occam.proofs.Made.{finishes as ends_there}
+use Rattle.vc_occam.proofs.GoingOn.{finishes as ends_there}
+use Rattle.vc_occam.proofs.Lifting.{then_is, turns_is, index_is, left_is, right_is}
 use Rattle.vc_occam.proofs.StepWaits.{step_waits}
-use Rattle.vc_occam.proofs.Interleavings.{offers, finishes, takes, chooses, stops, Run, still, quiet, tells, then_is, turns_is, index_is, left_is, right_is}
+use Rattle.vc_occam.proofs.Interleavings.{offers, finishes, takes, chooses, stops, Run, still, quiet, tells}
 
 left_or : (a b : Bool) → a ≡ true → (a || b) ≡ true
 left_or a b e = ap (λ z. z || b) e
@@ -214,7 +215,7 @@ pub record Waits (r : Rest) (e : Store) (j : ℕ) (first : _) (m : List ℕ) (c 
 waits_then : {r r' : Rest} {e e' : Store} {j c : ℕ} {a : _} {m : List ℕ} {y : Datum} (ps : Procs) → Waits r e j a m c y r' e' → Waits (Then r ps) e j a m c y (then_on r' ps) e'
 waits_then {r = r} {e = e} {j = j} {a = a} ps w = record {
   middle = Then w.middle ps;
-  begins = subst (λ z. Step (Then r ps) e j a [] z e) (sym (then_is w.middle ps w.goes)) (in_then w.begins);
+  begins = subst (λ z. Step (Then r ps) e j a [] z e) (then_is w.middle ps w.goes) (in_then w.begins);
   goes = λ h. absurd cc;
   gets = in_then w.gets;
 }
@@ -222,7 +223,7 @@ waits_then {r = r} {e = e} {j = j} {a = a} ps w = record {
 waits_turns : {r r' : Rest} {e e' : Store} {j c : ℕ} {a : _} {m : List ℕ} {y : Datum} (v : ℕ) (b : ℤ) (n : ℕ) (p : Proc) → Waits r e j a m c y r' e' → Waits (Turns r v b n p) e j a m c y (turns_on r' v b n p) (index_on r' v b n e')
 waits_turns {r = r} {e = e} {j = j} {a = a} v b n p w = record {
   middle = Turns w.middle v b n p;
-  begins = subst (λ z. Step (Turns r v b n p) e j a [] (Turns w.middle v b n p) z) (sym (index_is w.middle v b n e w.goes)) (subst (λ z. Step (Turns r v b n p) e j a [] z (index_on w.middle v b n e)) (sym (turns_is w.middle v b n p w.goes)) (in_turns w.begins));
+  begins = subst (λ z. Step (Turns r v b n p) e j a [] (Turns w.middle v b n p) z) (index_is w.middle v b n e w.goes) (subst (λ z. Step (Turns r v b n p) e j a [] z (index_on w.middle v b n e)) (turns_is w.middle v b n p w.goes) (in_turns w.begins));
   goes = λ h. absurd cc;
   gets = in_turns w.gets;
 }
@@ -230,7 +231,7 @@ waits_turns {r = r} {e = e} {j = j} {a = a} v b n p w = record {
 waits_left : {r r' : Rest} {e e' : Store} {j c : ℕ} {a : _} {m : List ℕ} {y : Datum} (mine : Set) (q : Rest) → Waits r e j a m c y r' e' → Waits (Beside mine r q) e j a m c y (beside_on mine r' q) e'
 waits_left {r = r} {e = e} {j = j} {a = a} mine q w = record {
   middle = Beside mine w.middle q;
-  begins = subst (λ z. Step (Beside mine r q) e j a [] z e) (sym (left_is mine w.middle q w.goes)) (in_left w.begins);
+  begins = subst (λ z. Step (Beside mine r q) e j a [] z e) (left_is mine w.middle q w.goes) (in_left w.begins);
   goes = λ h. absurd cc;
   gets = in_left w.gets;
 }
@@ -238,7 +239,7 @@ waits_left {r = r} {e = e} {j = j} {a = a} mine q w = record {
 waits_right : {q q' : Rest} {e e' : Store} {j c : ℕ} {a : _} {m : List ℕ} {y : Datum} (mine : Set) (r : Rest) → Waits q e j a m c y q' e' → Waits (Beside mine r q) e j a m c y (beside_on mine r q') e'
 waits_right {q = q} {e = e} {j = j} {a = a} mine r w = record {
   middle = Beside mine r w.middle;
-  begins = subst (λ z. Step (Beside mine r q) e j a [] z e) (sym (right_is mine r w.middle w.goes)) (in_right w.begins);
+  begins = subst (λ z. Step (Beside mine r q) e j a [] z e) (right_is mine r w.middle w.goes) (in_right w.begins);
   goes = λ h. absurd cc;
   gets = in_right w.gets;
 }

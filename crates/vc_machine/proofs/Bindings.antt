@@ -3,7 +3,7 @@ use Rattle.std.proofs.Common.{◌≡◌, ℕ, ◌<◌, ◌⊎◌, inl, inr, List
 use Rattle.std.proofs.lemmas.Bool.{cases_eq}
 use Rattle.vc_machine.specs.Paths.{Port, AtNode, Net}
 use Rattle.vc_machine.specs.Machine.{BodyLeaves}
-use Rattle.vc_tokens.specs.Tokens.{Token, Byte, Fct, EndMark}
+use Rattle.vc_tokens.specs.Tokens.{Token, Fct}
 use Rattle.vc_machine.specs.Links.{Receiver, Tokens, set_wire, no_tokens}
 use Rattle.vc_switch.specs.Waiting.{Waiting}
 use Rattle.vc_machine.specs.TokenMachine.{TokenEvent, Proc, Take, Pass, Put, PutFct, Route, TokenStep, arrive, with_header, keeps, loses, Passes, node_byte, node_mark, switch_byte, switch_mark, Puts, Binds}
@@ -50,8 +50,7 @@ untouched net t u w r b c got bound =
 
 arrive_bindings : (net : Net) (back : ℕ → ℕ) (t : Tokens) (w word : ℕ) (k : Token) → Bindings net t → Bindings net (arrive back t w word k)
 arrive_bindings net back t w word Fct b = untouched net t _ w _ b (changed w t.receiver _) refl refl
-arrive_bindings net back t w word (Byte c) b = untouched net t _ w _ b (changed w t.receiver _) refl refl
-arrive_bindings net back t w word (EndMark m) b = untouched net t _ w _ b (changed w t.receiver _) refl refl
+arrive_bindings net back t w word x b = untouched net t _ w _ b (changed w t.receiver _) refl refl
 
 pub not_at_node : (net : Net) (p : Port) (n i : ℕ) (got : List ℕ) (out : ℕ) → p ≡ AtNode n i → BoundGroup net p got out → ⊥
 not_at_node net p n i got out far g = let e = sym far ∙ g.far in cc

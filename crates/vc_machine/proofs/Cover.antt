@@ -18,21 +18,17 @@ use Rattle.vc_machine.proofs.Labels.{Phase, Calm, Coming, Waiting, Returning, ca
 -- the data of a packet, and its mark
 abbrev pub load_of : Phase → List (List ℕ) → List ℕ
 load_of Returning cs = []
-load_of Calm [] = []
 load_of Calm (c ∷ cs) = c
-load_of Coming [] = []
 load_of Coming (c ∷ cs) = c
-load_of Waiting [] = []
 load_of Waiting (c ∷ cs) = c
+load_of q [] = []
 
 abbrev pub tag_of : Phase → List (List ℕ) → Mark
 tag_of Returning cs = Eop
-tag_of Calm [] = Eom
 tag_of Calm (c ∷ cs) = mark_before cs
-tag_of Coming [] = Eom
 tag_of Coming (c ∷ cs) = mark_before cs
-tag_of Waiting [] = Eom
 tag_of Waiting (c ∷ cs) = mark_before cs
+tag_of q [] = Eom
 
 abbrev pub packet_of : List ℕ → Mark → Packet
 packet_of b m = record { body = b; mark = m }
@@ -42,12 +38,10 @@ bare s m = ap (λ b. packet_of b m) (sym (append-nil (spelled s)))
 
 pub carried_is : (f : Phase) (cs : List (List ℕ)) (s : List ℕ) → carried f cs s ≡ packet_of (spelled s ++ load_of f cs) (tag_of f cs)
 carried_is Returning cs s = bare s Eop
-carried_is Calm [] s = bare s Eom
 carried_is Calm (c ∷ cs) s = refl
-carried_is Coming [] s = bare s Eom
 carried_is Coming (c ∷ cs) s = refl
-carried_is Waiting [] s = bare s Eom
 carried_is Waiting (c ∷ cs) s = refl
+carried_is q [] s = bare s Eom
 
 pub body_is : (f : Phase) (cs : List (List ℕ)) (s : List ℕ) (p : Packet) → p ≡ carried f cs s → p.body ≡ spelled s ++ load_of f cs
 body_is f cs s p e = ap (λ q. q.body) (e ∙ carried_is f cs s)

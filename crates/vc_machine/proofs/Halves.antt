@@ -24,9 +24,7 @@ kind_of_piece now (d ∷ ds) cut =
 
 pub at_most_one : (ch : Channel) (f : Phase) (x : ChanState) (n : ℕ) → PhaseFits ch f x n → n ≤ 1
 at_most_one ch Calm x n h = let e = h.0 in omega arith
-at_most_one ch Coming x n h = let e = h.0 in omega arith
-at_most_one ch Waiting x n h = let e = h.0 in omega arith
-at_most_one ch Returning x n h = let e = h.0 in omega arith
+at_most_one ch q x n h = let e = h.0 in omega arith
 
 pub calm_when_idle : (ch : Channel) (f : Phase) (x : ChanState) (n : ℕ) → PhaseFits ch f x n → x.unacked ≡ [] → (n ≡ 0) × (x.held ≡ None) × IsCalm x
 calm_when_idle ch Calm x n h e = h
@@ -36,10 +34,8 @@ calm_when_idle ch Returning x n h e = let u = h.2.unacked in absurd (cc)
 
 pub waiting_when_held : (ch : Channel) (f : Phase) (x : ChanState) (n : ℕ) (p : Packet) → PhaseFits ch f x n → x.held ≡ Some p →
     (n ≡ 0) × (p ≡ piece_packet (ch.to.block ∷ []) x.unacked) × IsGoing x
-waiting_when_held ch Calm x n p h e = let u = h.1 in absurd (cc)
-waiting_when_held ch Coming x n p h e = let u = h.1 in absurd (cc)
 waiting_when_held ch Waiting x n p h e = (h.0, (let u = h.1 in cc), h.3)
-waiting_when_held ch Returning x n p h e = let u = h.1 in absurd (cc)
+waiting_when_held ch q x n p h e = let u = h.1 in absurd (cc)
 
 pub calm_at : (x : ChanState) (w t : Bool) (p : Option Packet) → IsCalm x → IsCalm (record x { wants = w; stopped = t; held = p })
 calm_at x w t p h = record { unacked = h.unacked; stored = h.stored; same = h.same; count = h.count }

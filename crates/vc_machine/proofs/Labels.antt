@@ -41,15 +41,11 @@ tally c (suc w) L = in_way c (L w) + tally c w L
 
 abbrev pub goal_end : Phase → Channel → End
 goal_end Returning ch = ch.from
-goal_end Calm ch = ch.to
-goal_end Coming ch = ch.to
-goal_end Waiting ch = ch.to
+goal_end q ch = ch.to
 
 abbrev pub carried : Phase → List (List ℕ) → List ℕ → Packet
 carried Returning cs s = ack_packet s
-carried Calm cs s = piece_packet s cs
-carried Coming cs s = piece_packet s cs
-carried Waiting cs s = piece_packet s cs
+carried q cs s = piece_packet s cs
 
 -- the label fits the packet, which is behind v's header at way w
 pub record On (net : Net) (ph : ℕ → Phase) (chans : ℕ → ChanState) (w : ℕ) (v : Option ℕ) (l : Label) (p : Packet) : Type 0 where

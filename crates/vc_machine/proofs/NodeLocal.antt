@@ -3,7 +3,7 @@ use Rattle.std.proofs.Common.{◌≡◌, ℕ, suc, Bool, true, false, List, [], 
 use Rattle.vc_packets.specs.declared.packet.Packet.{Packet}
 use Rattle.vc_packets.specs.Spellings.{ack_packet, piece_packet}
 use Rattle.vc_machine.specs.Paths.{Carries, AtNode, Net}
-use Rattle.vc_machine.specs.Machine.{State, WayState, ChanState, set_way, enqueue, set_chan, store, accept, advance, Event, Offer, Want, Choose, Stop, Send, Receive, Enter, Leave, IsTaken, stores, holds, advances, Reaches, taken, stray, Offers, Fetches, Wants, fetches, waits, IsOpen, Stops, Step}
+use Rattle.vc_machine.specs.Machine.{State, WayState, ChanState, set_way, enqueue, set_chan, store, accept, advance, Event, Offer, Want, Choose, Stop, IsTaken, stores, holds, advances, Reaches, taken, stray, Offers, Fetches, Wants, fetches, waits, IsOpen, Stops, Step}
 use Rattle.vc_machine.specs.Atomic.{SameOut, SameIn, SameNode, IsProcAt, Homes}
 use Rattle.vc_machine.proofs.Update.{every_put, every_put₂}
 
@@ -132,11 +132,7 @@ proc_local net n s v u (Stop c) at h k =
     (changed_here net n s v c _ _ h
     (λ e. let o = h.outs c e in record { unacked = o.unacked; offered = o.offered; finished = o.finished })
     (λ e. let i = h.ins c e in record { wants = i.wants; stopped = refl; held = i.held; stored = i.stored; taken = i.taken }))
-proc_local net n s v u (Send w) at h k = absurd at
-proc_local net n s v u (Receive w) at h k = absurd at
-proc_local net n s v u (Enter w drawn) at h k = absurd at
-proc_local net n s v u (Event.Route w out) at h k = absurd at
-proc_local net n s v u (Leave w) at h k = absurd at
+proc_local net n s v u d at h k = absurd at
 
 -- the other nodes
 
@@ -224,8 +220,4 @@ proc_elsewhere net homes m n s (Choose c) u other at k = fetches_elsewhere net h
 proc_elsewhere net homes m n s (Stop c) u other at k =
     subst (SameNode net m s) (sym k.after)
     (half_elsewhere net m s s c _ (node_self net m s) (λ e. record { unacked = refl; offered = refl; finished = refl }) (λ e. absurd (other (sym e ∙ at))))
-proc_elsewhere net homes m n s (Send w) u other at k = absurd at
-proc_elsewhere net homes m n s (Receive w) u other at k = absurd at
-proc_elsewhere net homes m n s (Enter w drawn) u other at k = absurd at
-proc_elsewhere net homes m n s (Event.Route w out) u other at k = absurd at
-proc_elsewhere net homes m n s (Leave w) u other at k = absurd at
+proc_elsewhere net homes m n s d u other at k = absurd at

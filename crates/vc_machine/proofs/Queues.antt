@@ -2,7 +2,7 @@
 use Rattle.std.proofs.Common.{◌≡◌, ℕ, List, [], ◌∷◌, ◌++◌, refl, sym, ap, subst, ◌∙◌}
 use Rattle.vc_packets.specs.declared.packet.Packet.{Packet}
 use Rattle.vc_machine.specs.Paths.{Net}
-use Rattle.vc_machine.specs.Machine.{State, WayState, enqueue, advance, Event, Offer, Want, Choose, Stop, Send, Receive, Enter, Leave, IsTaken, stores, holds, advances, Reaches, taken, stray, fetches, waits, Step}
+use Rattle.vc_machine.specs.Machine.{State, WayState, enqueue, advance, Event, Offer, Want, Choose, Stop, IsTaken, stores, holds, advances, Reaches, taken, stray, fetches, waits, Step}
 use Rattle.vc_machine.specs.TokenMachine.{IsProc}
 use Rattle.vc_machine.proofs.Update.{every_put}
 
@@ -41,8 +41,4 @@ proc_grown net s (Want c) v i (open_is, fetches h) = subst (Grown s) (sym h.afte
 proc_grown net s (Want c) v i (open_is, waits held after) = subst (Grown s) (sym after) (same_queues s _ refl)
 proc_grown net s (Choose c) v i h = subst (Grown s) (sym h.1.after) (queued s _ _ _ refl)
 proc_grown net s (Stop c) v i h = subst (Grown s) (sym h.after) (same_queues s _ refl)
-proc_grown net s (Send w) v i h = absurd i
-proc_grown net s (Receive w) v i h = absurd i
-proc_grown net s (Enter w drawn) v i h = absurd i
-proc_grown net s (Event.Route w out) v i h = absurd i
-proc_grown net s (Leave w) v i h = absurd i
+proc_grown net s d v i h = absurd i

@@ -2,7 +2,7 @@
 use Rattle.std.proofs.Common.{◌≡◌, ℕ, suc, Bool, true, List, [], ◌∷◌, ◌++◌, refl, sym, ap, subst, ◌∙◌, Option}
 use Rattle.vc_packets.specs.declared.packet.Packet.{Packet}
 use Rattle.vc_machine.specs.Paths.{Net}
-use Rattle.vc_machine.specs.Machine.{State, ChanState, enqueue, set_chan, store, accept, advance, Event, Offer, Want, Choose, Stop, Send, Receive, Enter, Leave, IsTaken, stores, holds, advances, Reaches, taken, stray, Offers, Fetches, Wants, fetches, waits, IsOpen, Stops, Step}
+use Rattle.vc_machine.specs.Machine.{State, ChanState, enqueue, set_chan, store, accept, advance, Event, Offer, Want, Choose, Stop, IsTaken, stores, holds, advances, Reaches, taken, stray, Offers, Fetches, Wants, fetches, waits, IsOpen, Stops, Step}
 use Rattle.vc_packets.specs.Functions.{put}
 use Rattle.vc_machine.specs.TokenMachine.{IsProc}
 use Rattle.vc_machine.proofs.Update.{every_put, every_put₂}
@@ -128,8 +128,4 @@ proc_alike net t s u (Stop c) a i h =
     framed s u _ (set_chan s c (record (s.chans c) { stopped = true })) (Stops net s c) h.after
     (record { real = h.real; idle = ap (λ f. (f c).wants) a.chans ∙ h.idle; after = refl })
     (changed_nodes t s c (λ x. record x { stopped = true }) a) (changed_ways s c _)
-proc_alike net t s u (Send w) a i h = absurd i
-proc_alike net t s u (Receive w) a i h = absurd i
-proc_alike net t s u (Enter w drawn) a i h = absurd i
-proc_alike net t s u (Event.Route w out) a i h = absurd i
-proc_alike net t s u (Leave w) a i h = absurd i
+proc_alike net t s u d a i h = absurd i

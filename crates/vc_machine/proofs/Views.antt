@@ -3,7 +3,7 @@ use Rattle.std.proofs.Common.{◌≡◌, ℕ, suc, ◌≤◌, ◌⊎◌, inl, in
 use Rattle.vc_packets.specs.declared.packet.Packet.{Packet}
 use Rattle.vc_machine.specs.Paths.{Carries, Channel, Net}
 use Rattle.vc_machine.specs.Rendezvous.{View, Comm, Out, In, Fin, Stp, Does, IsPrefixOf}
-use Rattle.vc_machine.specs.Machine.{State, ChanState, store, accept, advance, view_of, view, Shows, MayTell, Event, Offer, Want, Choose, Stop, Send, Receive, Enter, Route, Leave, stores, holds, advances, Reaches, taken, stray, fills, lost, Fetches, Wants, fetches, waits, IsOpen, Step}
+use Rattle.vc_machine.specs.Machine.{State, ChanState, store, accept, advance, view_of, view, Shows, MayTell, Event, Offer, Want, Choose, Stop, Receive, Enter, stores, holds, advances, Reaches, taken, stray, fills, lost, Fetches, Wants, fetches, waits, IsOpen, Step}
 use Rattle.vc_packets.specs.Functions.{put}
 use Rattle.vc_machine.proofs.Basics.{put-same, put-other, every_put}
 use Rattle.vc_machine.proofs.Labels.{Phase, Calm, Coming, Waiting, Returning, tally, LeftAfter, PhaseFits, Inv}
@@ -150,7 +150,6 @@ step_told net s t (Offer d m) i j h =
 step_told net s t (Want d) i j h = wants_told (MayTell (Want d)) net s t d (inl refl, λ m. inr (m, refl)) j h.0 h.1
 step_told net s t (Choose d) i j h = fetches_told (MayTell (Choose d)) net s t d (inl refl, λ m. inr (m, refl)) j h.0 h.1
 step_told net s t (Stop d) i j h = told (MayTell (Stop d)) s t d (record (s.chans d) { stopped = true }) (ap (λ k. k.chans) h.after) (inr (Stp, refl, refl))
-step_told net s t (Send w) i j h = quiet (MayTell (Send w)) s t (ap (λ k. k.chans) h.after) refl
 step_told net s t (Receive w) i j h =
     let r : State = record s { ways = put s.ways w (record (s.ways w) { line = h.rest }) } in
     let M = MayTell (Receive w) in
@@ -161,5 +160,4 @@ step_told net s t (Enter w v) i j h =
       | fills group after ↦ quiet (MayTell (Enter w v)) s t (ap (λ k. k.chans) after) refl
       | lost stuck after ↦ quiet (MayTell (Enter w v)) s t (ap (λ k. k.chans) after) refl
     ]
-step_told net s t (Route w out) i j h = quiet (MayTell (Route w out)) s t (ap (λ k. k.chans) h.after) refl
-step_told net s t (Leave w) i j h = quiet (MayTell (Leave w)) s t (ap (λ k. k.chans) h.after) refl
+step_told net s t d i j h = quiet (MayTell d) s t (ap (λ k. k.chans) h.after) refl

@@ -224,8 +224,4 @@ module _ {P : Type 0} (plan : Plan) (Does : StepRelation P) (acc : IsAccepted pl
   pub goes_same : (t : Option node.Taken) → GoesOn Does a.process t b.process → GoesOn Does a.process t b'.process → b.process ≡ b'.process
   goes_same (Some (node.Complete c m)) h h' = det.next a.process b.process b'.process (Receives c m) h h'
   goes_same (Some (node.Finished c)) h h' = det.next a.process b.process b'.process (Finishes c) h h'
-  goes_same (Some (node.Held c)) h h' = h ∙ sym h'
-  goes_same (Some (node.Stored c)) h h' = h ∙ sym h'
-  goes_same (Some (node.More c)) h h' = h ∙ sym h'
-  goes_same (Some node.Stray) h h' = h ∙ sym h'
-  goes_same None h h' = h ∙ sym h'
+  goes_same o h h' = h ∙ sym h'

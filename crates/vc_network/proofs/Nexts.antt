@@ -286,11 +286,7 @@ module _ {P : Type 0} (plan : Plan) (waiting : Waiting) (Does : StepRelation P) 
     goes_on : (taken : Option node.Taken) → GoesOn Does a.process taken b.process → Trace Does a.process (said_by_pass taken) b.process
     goes_on (Some (node.Complete c m)) h = did (Receives c m) h
     goes_on (Some (node.Finished c)) h = did (Finishes c) h
-    goes_on (Some (node.Held c)) h = subst (Trace Does a.process []) (sym h) none
-    goes_on (Some (node.Stored c)) h = subst (Trace Does a.process []) (sym h) none
-    goes_on (Some (node.More c)) h = subst (Trace Does a.process []) (sym h) none
-    goes_on (Some node.Stray) h = subst (Trace Does a.process []) (sym h) none
-    goes_on None h = subst (Trace Does a.process []) (sym h) none
+    goes_on o h = subst (Trace Does a.process []) (sym h) none
 
     quiet : b.process ≡ a.process → Trace Does a.process [] b.process
     quiet e = subst (Trace Does a.process []) (sym e) none
@@ -321,10 +317,6 @@ module _ {P : Type 0} (plan : Plan) (waiting : Waiting) (Does : StepRelation P) 
         outer (Pass l) (tok.Pass w.0) (λ h. tt) (said_by_pass h.0) s.way (sym (own_ways s u (Pass l) ways)) h.3
         (link_passes_homed l w.0 h.0 w.1 h.1) (goes_on h.0 h.2)
         (node_passes l w.0 h.0 w.1 p)
-    node_next (Own (Take link word)) ways h = absurd h
-    node_next (Own (Put link)) ways h = absurd h
-    node_next (Own (Route i o)) ways h = absurd h
-    node_next (Own (Fct l)) ways h = absurd h
     node_next (Takes (Take l word) w k) ways h =
         let front = take_front s.way u.way w k ways in
         elim h.1 [
@@ -333,11 +325,6 @@ module _ {P : Type 0} (plan : Plan) (waiting : Waiting) (Does : StepRelation P) 
               (comes plan waiting acc (vcps s) (switches plan s) s.way t g.shows n l w word k (u.way w) b.vcp h.0 front (subst (λ z. b.vcp ≡ links.set_link z l (links.with_token (z.link l) k)) (sym here) after))
           | links.not_due no_place after ↦ absurd (no_place (subst (λ z. IsDue (z.link l).sender (z.link l).receiver k) here (is_due plan (vcps s) (switches plan s) s.way t w (AtNode n l) k (u.way w) g.sound.credited g.shows h.0 front)))
         ]
-    node_next (Takes (Proc move) w p) ways h = absurd h
-    node_next (Takes (Put link) w p) ways h = absurd h
-    node_next (Takes (Route i o) w p) ways h = absurd h
-    node_next (Takes (Fct l) w p) ways h = absurd h
-    node_next (Takes (Pass l) w p) ways h = absurd h
     node_next (Puts (Put l) w k) ways h =
         outer (Put l) (tok.Put w) (λ h. tt) [] (put s.way w (s.way w ++ k ∷ [])) (put_ways s.way u.way w k ways) h.2.inner
         (link_homed plan n l (back w) a.vcp b.vcp (record (a.vcp.link l) { sender = h.1.sender }) (back_into plan w (AtNode n l) h.0) (ap (λ z. z.link) h.1.after)
@@ -348,10 +335,7 @@ module _ {P : Type 0} (plan : Plan) (waiting : Waiting) (Does : StepRelation P) 
         (link_homed plan n l (back w) a.vcp b.vcp (record (a.vcp.link l) { receiver = h.2.receiver }) (back_into plan w (AtNode n l) h.0) (ap (λ z. z.link) h.2.after)
         (subst (CarrierHomed plan n) (sym (ap (λ z. z.carrier) h.2.after)) homed.carrier) homed) (quiet h.3.process)
         (sends_fct plan waiting acc (vcps s) (switches plan s) s.way t g.shows n l w b.vcp h.0 (subst (λ z. links.SendsFct z l b.vcp) (sym here) h.2))
-    node_next (Puts (Proc move) w p) ways h = absurd h
-    node_next (Puts (Take link word) w p) ways h = absurd h
-    node_next (Puts (Route i o) w p) ways h = absurd h
-    node_next (Puts (Pass l) w p) ways h = absurd h
+    node_next d ways h = absurd h
 
   module _ (k : ℕ) (at : n ≡ plan.nodes + k) (a b : Switch) (ea : s.state n ≡ IsSwitch a) (eb : u.state n ≡ IsSwitch b) where
     was : switches plan s k ≡ a
@@ -402,8 +386,7 @@ module _ {P : Type 0} (plan : Plan) (waiting : Waiting) (Does : StepRelation P) 
 
     comes_homed : (l word w : ℕ) (c : Token) → IsInto plan w (AtSwitch k l) → b ≡ switch.with_token a l word c → SwitchHomed plan k b
     comes_homed l word w (tokens.Byte c) into h = input_homed plan k l w a b _ into (ap (λ z. z.input) h) switch_homed
-    comes_homed l word w (tokens.EndMark m) into h = input_homed plan k l w a b _ into (ap (λ z. z.input) h) switch_homed
-    comes_homed l word w tokens.Fct into h = input_homed plan k l w a b _ into (ap (λ z. z.input) h) switch_homed
+    comes_homed l word w t into h = input_homed plan k l w a b _ into (ap (λ z. z.input) h) switch_homed
 
     passes_homed : (l w : ℕ) → IsInto plan w (AtSwitch k l) → switch.Passes (body_limit plan) (switch_plan plan k) a l b → SwitchHomed plan k b
     passes_homed l w into (switch.passes_byte c rest unmarked front short h) = input_homed plan k l w a b _ into (ap (λ z. z.input) h) switch_homed
@@ -427,10 +410,6 @@ module _ {P : Type 0} (plan : Plan) (waiting : Waiting) (Does : StepRelation P) 
         switched (Pass l) (tok.Pass w.0) (λ h. tt) s.way (sym (own_ways s u (Pass l) ways)) (passes_homed l w.0 w.1 h)
         (at_switch.passes_rest plan waiting acc (vcps s) (switches plan s) s.way t g.shows k l w.0 b w.1 (subst (λ z. switch.Passes (body_limit plan) (switch_plan plan k) z l b) (sym was) h)
         (λ c rest front long unmarked. in_switch plan waiting acc s t g k l w.0 c rest w.1 unmarked front long))
-    switch_next (Own (Proc move)) ways h = absurd h
-    switch_next (Own (Take link word)) ways h = absurd h
-    switch_next (Own (Put link)) ways h = absurd h
-    switch_next (Own (Fct l)) ways h = absurd h
     switch_next (Takes (Take l word) w c) ways h =
         let front = take_front s.way u.way w c ways in
         elim h.1 [
@@ -438,11 +417,6 @@ module _ {P : Type 0} (plan : Plan) (waiting : Waiting) (Does : StepRelation P) 
               (at_switch.comes plan waiting acc (vcps s) (switches plan s) s.way t g.shows k l w word c (u.way w) b h.0 front (subst (λ z. b ≡ switch.with_token z l word c) (sym was) after))
           | switch.not_due no_place after ↦ absurd (no_place (subst (λ z. IsDue (z.output l) (z.input l).receiver c) was (is_due plan (vcps s) (switches plan s) s.way t w (AtSwitch k l) c (u.way w) g.sound.credited g.shows h.0 front)))
         ]
-    switch_next (Takes (Proc move) w p) ways h = absurd h
-    switch_next (Takes (Put link) w p) ways h = absurd h
-    switch_next (Takes (Route i o) w p) ways h = absurd h
-    switch_next (Takes (Fct l) w p) ways h = absurd h
-    switch_next (Takes (Pass l) w p) ways h = absurd h
     switch_next (Puts (Put o) w c) ways h =
         let v = routed_way plan k h.1.link o a h.1.body switch_homed h.1.leaves in
         let r = subst (λ z. switch.Sends (switch_plan plan k) waiting z o c b) (sym was) h.1 in
@@ -454,10 +428,7 @@ module _ {P : Type 0} (plan : Plan) (waiting : Waiting) (Does : StepRelation P) 
         switched (Fct l) (tok.PutFct (back w)) (λ h. tt) (put s.way w (s.way w ++ tokens.Fct ∷ [])) (ap (λ z. put s.way w (s.way w ++ z ∷ [])) (sym h.1) ∙ put_ways s.way u.way w c ways)
         (input_homed plan k l (back w) a b _ (back_into plan w (AtSwitch k l) h.0) (ap (λ z. z.input) h.2.after) switch_homed)
         (at_switch.sends_fct plan waiting acc (vcps s) (switches plan s) s.way t g.shows k l w b h.0 (subst (λ z. switch.SendsFct z l b) (sym was) h.2))
-    switch_next (Puts (Proc move) w p) ways h = absurd h
-    switch_next (Puts (Take link word) w p) ways h = absurd h
-    switch_next (Puts (Route i o) w p) ways h = absurd h
-    switch_next (Puts (Pass l) w p) ways h = absurd h
+    switch_next d ways h = absurd h
 
 -- each step of the network
 pub next : {P : Type 0} (plan : Plan) (waiting : Waiting) (Does : StepRelation P) (acc : IsAccepted plan) (s u : Network (Actor P) Token) (t : Tokens) (n : ℕ) (label : Label Act Token) → Good plan s t → Step (Local plan waiting Does) s n label u → Next plan waiting Does s u t n (act_of label)

@@ -208,10 +208,7 @@ stops plan car sw t n c b acc s h =
 abbrev pub said_by_taken : node.Taken → List (ℕ × Comm)
 said_by_taken (node.Complete c m) = (c, In m) ∷ []
 said_by_taken (node.Finished c) = (c, Fin) ∷ []
-said_by_taken (node.Held c) = []
-said_by_taken (node.Stored c) = []
-said_by_taken (node.More c) = []
-said_by_taken node.Stray = []
+said_by_taken x = []
 
 taken_said : (c : ℕ) (answer : Option (List ℕ)) → said_by_taken (node.taken_by c answer) ≡ input_of c answer
 taken_said c (Some m) = refl

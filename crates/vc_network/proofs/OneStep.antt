@@ -22,12 +22,10 @@ use Rattle.vc_network.proofs.Threads.{threads_headline}
 
 -- an act that takes nothing and puts nothing, one that takes, and one that puts
 abbrev kind_of : Act → ℕ
-kind_of (Proc move) = 0
-kind_of (Route i o) = 0
-kind_of (Pass l) = 0
 kind_of (Take l x) = 1
 kind_of (Put l) = 2
 kind_of (Fct l) = 2
+kind_of a = 0
 
 data Form (label : Label Act Token) : Type 0 where
   own : (act : Act) → label ≡ Own act → kind_of act ≡ 0 → Form label
@@ -36,43 +34,19 @@ data Form (label : Label Act Token) : Type 0 where
 
 node_form : {P : Type 0} (plan : Plan) (Does : StepRelation P) (n : ℕ) (a b : Node P) (label : Label Act Token) → NodeStep plan Does n a label b → Form label
 node_form plan Does n a b (Own (Proc move)) h = own (Proc move) refl refl
-node_form plan Does n a b (Own (Take l w)) h = absurd h
-node_form plan Does n a b (Own (Put l)) h = absurd h
-node_form plan Does n a b (Own (Route i o)) h = absurd h
-node_form plan Does n a b (Own (Fct l)) h = absurd h
 node_form plan Does n a b (Own (Pass l)) h = own (Pass l) refl refl
-node_form plan Does n a b (Takes (Proc move) v k) h = absurd h
 node_form plan Does n a b (Takes (Take l x) v k) h = takes (Take l x) v k refl refl
-node_form plan Does n a b (Takes (Put l) v k) h = absurd h
-node_form plan Does n a b (Takes (Route i o) v k) h = absurd h
-node_form plan Does n a b (Takes (Fct l) v k) h = absurd h
-node_form plan Does n a b (Takes (Pass l) v k) h = absurd h
-node_form plan Does n a b (Puts (Proc move) v k) h = absurd h
-node_form plan Does n a b (Puts (Take l x) v k) h = absurd h
 node_form plan Does n a b (Puts (Put l) v k) h = puts (Put l) v k refl refl
-node_form plan Does n a b (Puts (Route i o) v k) h = absurd h
 node_form plan Does n a b (Puts (Fct l) v k) h = puts (Fct l) v k refl refl
-node_form plan Does n a b (Puts (Pass l) v k) h = absurd h
+node_form plan Does n a b d h = absurd h
 
 switch_form : (plan : Plan) (waiting : Waiting) (i : ℕ) (a b : Switch) (label : Label Act Token) → SwitchStep plan waiting i a label b → Form label
-switch_form plan waiting j a b (Own (Proc move)) h = absurd h
-switch_form plan waiting j a b (Own (Take l w)) h = absurd h
-switch_form plan waiting j a b (Own (Put l)) h = absurd h
 switch_form plan waiting j a b (Own (Route i o)) h = own (Route i o) refl refl
-switch_form plan waiting j a b (Own (Fct l)) h = absurd h
 switch_form plan waiting j a b (Own (Pass l)) h = own (Pass l) refl refl
-switch_form plan waiting j a b (Takes (Proc move) v k) h = absurd h
 switch_form plan waiting j a b (Takes (Take l x) v k) h = takes (Take l x) v k refl refl
-switch_form plan waiting j a b (Takes (Put l) v k) h = absurd h
-switch_form plan waiting j a b (Takes (Route i o) v k) h = absurd h
-switch_form plan waiting j a b (Takes (Fct l) v k) h = absurd h
-switch_form plan waiting j a b (Takes (Pass l) v k) h = absurd h
-switch_form plan waiting j a b (Puts (Proc move) v k) h = absurd h
-switch_form plan waiting j a b (Puts (Take l x) v k) h = absurd h
 switch_form plan waiting j a b (Puts (Put l) v k) h = puts (Put l) v k refl refl
-switch_form plan waiting j a b (Puts (Route i o) v k) h = absurd h
 switch_form plan waiting j a b (Puts (Fct l) v k) h = puts (Fct l) v k refl refl
-switch_form plan waiting j a b (Puts (Pass l) v k) h = absurd h
+switch_form plan waiting j a b d h = absurd h
 
 kinds : (m n : ℕ) → m < n → m ≡ n → ⊥
 kinds m n h e = omega arith
@@ -115,10 +89,7 @@ module _ {P : Type 0} (plan : Plan) (Does : StepRelation P) (acc : IsAccepted pl
       let h' = subst (λ z. NodeStep plan Does n a (Own z) b') (sym e) h0 in
       let s = passes_same plan n l a.vcp h.0 h'.0 b.vcp b'.vcp acc h.1 h'.1 in
       same_node plan Does acc det n a b b' s.1 (goes_same plan Does acc det n a b b' h'.0 (subst (λ z. GoesOn Does a.process z b.process) s.0 h.2) h'.2) (h.3 ∙ sym h'.3)
-  node_own (Take l w) act' h h' e = absurd h
-  node_own (Put l) act' h h' e = absurd h
-  node_own (Fct l) act' h h' e = absurd h
-  node_own (Route i o) act' h h' e = absurd h
+  node_own a act' h h' e = absurd h
 
   node_take : (act act' : Act) (v w : ℕ) (k k' : Token) → NodeStep plan Does n a (Takes act v k) b → NodeStep plan Does n a (Takes act' w k') b' → act ≡ act' → (v ≡ w) × (k ≡ k' → b ≡ b')
   node_take (Take l x) act' v w k k' h h0 e =
@@ -126,11 +97,7 @@ module _ {P : Type 0} (plan : Plan) (Does : StepRelation P) (acc : IsAccepted pl
         one_far plan acc v w h.0.0 h'.0.0 (h.0.1 ∙ sym h'.0.1),
         λ i. same_node plan Does acc det n a b b' (comes_same a.vcp l k' b.vcp b'.vcp (subst (λ z. links.Comes a.vcp l z b.vcp) i h.1) h'.1) (h.2.process ∙ sym h'.2.process) (h.2.inner ∙ sym h'.2.inner),
       )
-  node_take (Proc move) act' v w k k' h h' e = absurd h
-  node_take (Put l) act' v w k k' h h' e = absurd h
-  node_take (Fct l) act' v w k k' h h' e = absurd h
-  node_take (Pass l) act' v w k k' h h' e = absurd h
-  node_take (Route i o) act' v w k k' h h' e = absurd h
+  node_take a act' v w k k' h h' e = absurd h
 
   node_put : (act act' : Act) (v w : ℕ) (k k' : Token) → NodeStep plan Does n a (Puts act v k) b → NodeStep plan Does n a (Puts act' w k') b' → act ≡ act' → (v ≡ w) × (k ≡ k') × (b ≡ b')
   node_put (Put l) act' v w k k' h h0 e =
@@ -140,10 +107,7 @@ module _ {P : Type 0} (plan : Plan) (Does : StepRelation P) (acc : IsAccepted pl
   node_put (Fct l) act' v w k k' h h0 e =
       let h' = subst (λ z. NodeStep plan Does n a (Puts z w k') b') (sym e) h0 in
       (one_near plan acc v w h.0.0 h'.0.0 (h.0.1 ∙ sym h'.0.1), h.1 ∙ sym h'.1, same_node plan Does acc det n a b b' (sends_fct_same a.vcp l b.vcp b'.vcp h.2 h'.2) (h.3.process ∙ sym h'.3.process) (h.3.inner ∙ sym h'.3.inner))
-  node_put (Proc move) act' v w k k' h h' e = absurd h
-  node_put (Take l x) act' v w k k' h h' e = absurd h
-  node_put (Pass l) act' v w k k' h h' e = absurd h
-  node_put (Route i o) act' v w k k' h h' e = absurd h
+  node_put a act' v w k k' h h' e = absurd h
 
   to_node : (l l' : Label Act Token) → AreOne l b l' b' → AreOne l (IsNode b) l' (IsNode b')
   to_node (Own act) (Own act') h = ap IsNode h
@@ -158,20 +122,13 @@ module _ (plan : Plan) (waiting : Waiting) (acc : IsAccepted plan) (i : ℕ) (a 
   switch_own : (act act' : Act) → SwitchStep plan waiting i a (Own act) b → SwitchStep plan waiting i a (Own act') b' → act ≡ act' → b ≡ b'
   switch_own (Route l o) act' h h0 e = let h' = subst (λ z. SwitchStep plan waiting i a (Own z) b') (sym e) h0 in h.after ∙ sym h'.after
   switch_own (Pass l) act' h h0 e = let h' = subst (λ z. SwitchStep plan waiting i a (Own z) b') (sym e) h0 in enters_same plan i l a b b' h h'
-  switch_own (Proc move) act' h h' e = absurd h
-  switch_own (Take l w) act' h h' e = absurd h
-  switch_own (Put l) act' h h' e = absurd h
-  switch_own (Fct l) act' h h' e = absurd h
+  switch_own a act' h h' e = absurd h
 
   switch_take : (act act' : Act) (v w : ℕ) (k k' : Token) → SwitchStep plan waiting i a (Takes act v k) b → SwitchStep plan waiting i a (Takes act' w k') b' → act ≡ act' → (v ≡ w) × (k ≡ k' → b ≡ b')
   switch_take (Take l x) act' v w k k' h h0 e =
       let h' = subst (λ z. SwitchStep plan waiting i a (Takes z w k') b') (sym e) h0 in
       (one_far plan acc v w h.0.0 h'.0.0 (h.0.1 ∙ sym h'.0.1), λ j. switch_comes_same a l x k' b b' (subst (λ z. switch.Comes a l x z b) j h.1) h'.1)
-  switch_take (Proc move) act' v w k k' h h' e = absurd h
-  switch_take (Put l) act' v w k k' h h' e = absurd h
-  switch_take (Fct l) act' v w k k' h h' e = absurd h
-  switch_take (Pass l) act' v w k k' h h' e = absurd h
-  switch_take (Route l o) act' v w k k' h h' e = absurd h
+  switch_take a act' v w k k' h h' e = absurd h
 
   switch_put : (act act' : Act) (v w : ℕ) (k k' : Token) → SwitchStep plan waiting i a (Puts act v k) b → SwitchStep plan waiting i a (Puts act' w k') b' → act ≡ act' → (v ≡ w) × (k ≡ k') × (b ≡ b')
   switch_put (Put l) act' v w k k' h h0 e =
@@ -181,10 +138,7 @@ module _ (plan : Plan) (waiting : Waiting) (acc : IsAccepted plan) (i : ℕ) (a 
   switch_put (Fct l) act' v w k k' h h0 e =
       let h' = subst (λ z. SwitchStep plan waiting i a (Puts z w k') b') (sym e) h0 in
       (one_near plan acc v w h.0.0 h'.0.0 (h.0.1 ∙ sym h'.0.1), h.1 ∙ sym h'.1, switch_fct_same a l b b' h.2 h'.2)
-  switch_put (Proc move) act' v w k k' h h' e = absurd h
-  switch_put (Take l x) act' v w k k' h h' e = absurd h
-  switch_put (Pass l) act' v w k k' h h' e = absurd h
-  switch_put (Route l o) act' v w k k' h h' e = absurd h
+  switch_put a act' v w k k' h h' e = absurd h
 
   switch_one : (l l' : Label Act Token) → SwitchStep plan waiting i a l b → SwitchStep plan waiting i a l' b' → act_of l ≡ act_of l' → AreOne l b l' b'
   switch_one l l' h h' e = by_form (SwitchStep plan waiting i a) b b' switch_own switch_take switch_put l l' h h' e (switch_form plan waiting i a b l h) (switch_form plan waiting i a b' l' h')

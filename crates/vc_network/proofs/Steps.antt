@@ -60,13 +60,10 @@ puts_wormhole net waiting t w u (tok.switch_byte n v d b more bound is after) = 
 puts_wormhole net waiting t w u (tok.switch_mark n v d m bound mark is after) = tok.switch_mark n v d m (bound_wormhole net waiting t n v w d bound) mark is after
 
 as_wormhole : (net : Net) (waiting : Waiting) (t : Tokens) (e : TokenEvent) (u : Tokens) → TokenStep net back waiting t e u → TokenStep net back Wormhole t e u
-as_wormhole net waiting t (tok.Proc e) u h = h
-as_wormhole net waiting t (tok.Take w word) u h = h
-as_wormhole net waiting t (tok.Pass w) u h = h
 as_wormhole net waiting t (tok.Put w) u h = (h.0, h.1, puts_wormhole net waiting t w u h.2)
-as_wormhole net waiting t (tok.PutFct w) u h = h
 as_wormhole net waiting t (tok.Route w out) u h =
     record { body = h.body; switch = h.switch; link = h.link; real = h.real; far = h.far; unbound = h.unbound; group = h.group; may_go = tt; free = h.free; after = h.after }
+as_wormhole net waiting t d u h = h
 
 pub seen_sound : (plan : Plan) (t : Tokens) (s : State) → TokenView (net_of plan) t s → Bindings (net_of plan) t → Credited back t → (es : List TokenEvent) → TokenRun (net_of plan) back Wormhole no_tokens es t → Inv (net_of plan) s → Sound plan t
 seen_sound plan t s view b c es run i =

@@ -2,7 +2,7 @@
 use Rattle.std.proofs.Common.{◌≡◌, ℕ, List, map, [], ◌∷◌, refl, sym, ap, ap₂, ◌∙◌, ◌++◌, subst}
 use Rattle.vc_network.specs.Actors.{Label, Steps, ActBy, Network, act_of, opening, Alike, Step}
 use Rattle.vc_network.specs.Private.Actors.{Run, Event, KeepsTo, act_by, SameActs, IsDetermined}
-use Rattle.vc_network.specs.Actors.Label.{Own, Takes, Puts}
+use Rattle.vc_network.specs.Actors.Label.{Own}
 use Rattle.vc_network.specs.LocalRun.{Stamped, Turn, LocalRuns, items, plain, restamped}
 use Rattle.vc_network.specs.Merge.{Made, IsMerge}
 use Rattle.vc_network.specs.Private.Merge.{event, remade}
@@ -12,8 +12,7 @@ use Rattle.vc_network.proofs.Labels.{IsMerge-under}
 
 same_act : {Act Item : Type 0} (l : Label Act (Stamped Item)) → act_of (plain l) ≡ act_of l
 same_act (Own act) = refl
-same_act (Takes act way s) = refl
-same_act (Puts act way s) = refl
+same_act d = refl
 
 acts_by : {Act Item : Type 0} (ms : List (Made (Label Act (Stamped Item)))) → map act_by (map event ms) ≡ map (λ m. record { actor = m.actor; act = m.act.it }) (map (remade act_of) ms)
 acts_by [] = refl

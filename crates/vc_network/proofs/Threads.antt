@@ -9,7 +9,7 @@ use Rattle.vc_switch.specs.Waiting.{Waiting}
 use Rattle.vc_network.specs.Plan.{Plan, ways}
 use Rattle.vc_network.specs.LocalRun.{Stamped, plain}
 use Rattle.vc_network.specs.Processes.{StepRelation}
-use Rattle.vc_network.specs.Network.{Act, Proc, Take, Put, Route, Fct, Pass, Node, Actor, IsNode, IsSwitch, NodeStep, SwitchStep, Local, first, begins, actor_at, HappenAll}
+use Rattle.vc_network.specs.Network.{Act, Take, Put, Fct, Node, Actor, IsNode, IsSwitch, NodeStep, SwitchStep, Local, first, begins, actor_at, HappenAll}
 use Rattle.vc_network.specs.Threads.{source, sink, ended, ThreadsKeepHeadline}
 use Rattle.vc_network.proofs.Replays.{happened}
 use Rattle.vc_network.proofs.Main.{run_headline, run_list}
@@ -18,32 +18,16 @@ use Rattle.vc_switch.specs.Switch.{Switch}
 node_keeps : {P : Type 0} (plan : Plan) (Does : StepRelation P) (n : ℕ) (a b : Node P) (label : Label Act Token) → NodeStep plan Does n a label b → KeepsTo (source plan) (sink plan) n label
 node_keeps plan Does n a b (Own act) h = tt
 node_keeps plan Does n a b (Takes (Take link word) w p) h = ap (actor_at plan) h.0.1
-node_keeps plan Does n a b (Takes (Proc move) w p) h = absurd h
-node_keeps plan Does n a b (Takes (Put link) w p) h = absurd h
-node_keeps plan Does n a b (Takes (Route i o) w p) h = absurd h
-node_keeps plan Does n a b (Takes (Fct l) w p) h = absurd h
-node_keeps plan Does n a b (Takes (Pass l) w p) h = absurd h
 node_keeps plan Does n a b (Puts (Put link) w p) h = ap (actor_at plan) h.0.1
-node_keeps plan Does n a b (Puts (Proc move) w p) h = absurd h
-node_keeps plan Does n a b (Puts (Take link word) w p) h = absurd h
-node_keeps plan Does n a b (Puts (Route i o) w p) h = absurd h
 node_keeps plan Does n a b (Puts (Fct l) w p) h = ap (actor_at plan) h.0.1
-node_keeps plan Does n a b (Puts (Pass l) w p) h = absurd h
+node_keeps plan Does n a b d h = absurd h
 
 switch_keeps : (plan : Plan) (waiting : Waiting) (k : ℕ) (a b : Switch) (label : Label Act Token) → SwitchStep plan waiting k a label b → KeepsTo (source plan) (sink plan) (plan.nodes + k) label
 switch_keeps plan waiting k a b (Own act) h = tt
 switch_keeps plan waiting k a b (Takes (Take link word) w p) h = ap (actor_at plan) h.0.1
-switch_keeps plan waiting k a b (Takes (Proc move) w p) h = absurd h
-switch_keeps plan waiting k a b (Takes (Put link) w p) h = absurd h
-switch_keeps plan waiting k a b (Takes (Route i o) w p) h = absurd h
-switch_keeps plan waiting k a b (Takes (Fct l) w p) h = absurd h
-switch_keeps plan waiting k a b (Takes (Pass l) w p) h = absurd h
 switch_keeps plan waiting k a b (Puts (Put link) w p) h = ap (actor_at plan) h.0.1
-switch_keeps plan waiting k a b (Puts (Proc move) w p) h = absurd h
-switch_keeps plan waiting k a b (Puts (Take link word) w p) h = absurd h
-switch_keeps plan waiting k a b (Puts (Route i o) w p) h = absurd h
 switch_keeps plan waiting k a b (Puts (Fct l) w p) h = ap (actor_at plan) h.0.1
-switch_keeps plan waiting k a b (Puts (Pass l) w p) h = absurd h
+switch_keeps plan waiting k a b d h = absurd h
 
 pub keeps : {P : Type 0} (plan : Plan) (waiting : Waiting) (Does : StepRelation P) (actor : ℕ) (old : Actor P) (label : Label Act Token) (new : Actor P) → Local plan waiting Does actor old label new → KeepsTo (source plan) (sink plan) actor label
 keeps plan waiting Does actor (IsNode a) label (IsNode b) h = node_keeps plan Does actor a b label h.1
@@ -66,18 +50,10 @@ IsOnPlan plan (Puts act w p) = w < ways plan
 
 node_on : {P : Type 0} (plan : Plan) (Does : StepRelation P) (n : ℕ) (a b : Node P) (label : Label Act Token) → NodeStep plan Does n a label b → IsOnPlan plan label
 node_on plan Does n a b (Own act) h = tt
-node_on plan Does n a b (Takes (Proc move) w p) h = absurd h
 node_on plan Does n a b (Takes (Take l w0) w p) h = h.0.0
-node_on plan Does n a b (Takes (Put l) w p) h = absurd h
-node_on plan Does n a b (Takes (Route i o) w p) h = absurd h
-node_on plan Does n a b (Takes (Fct l) w p) h = absurd h
-node_on plan Does n a b (Takes (Pass l) w p) h = absurd h
-node_on plan Does n a b (Puts (Proc move) w p) h = absurd h
-node_on plan Does n a b (Puts (Take l w0) w p) h = absurd h
 node_on plan Does n a b (Puts (Put l) w p) h = h.0.0
-node_on plan Does n a b (Puts (Route i o) w p) h = absurd h
 node_on plan Does n a b (Puts (Fct l) w p) h = h.0.0
-node_on plan Does n a b (Puts (Pass l) w p) h = absurd h
+node_on plan Does n a b d h = absurd h
 
 past : (plan : Plan) (w : ℕ) (l : Label Act (Stamped Token)) → ways plan ≤ w → IsOnPlan plan (plain l) → (taken_off w l ≡ []) × (put_on w l ≡ [])
 past plan w (Own act) h k = (refl, refl)

@@ -23,8 +23,7 @@ side_is plan v false = refl
 
 channel_is : (plan : Plan) (h : Home) → net_channel plan h ≡ channel_on (link_at plan) (on_of h)
 channel_is plan (Way v true) = refl
-channel_is plan (Way v false) = refl
-channel_is plan (Inside n) = refl
+channel_is plan h = refl
 
 virtual_way : (h : Home) → is_virtual h ≡ true → h ≡ Way (on_of h).link (on_of h).ab
 virtual_way (Way v ab) e = refl

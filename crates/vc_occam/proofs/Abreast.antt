@@ -18,12 +18,13 @@ use Rattle.vc_occam.specs.SiteActions.{SiteAction}
 use Rattle.vc_occam.specs.Private.SiteSteps.{Actions, StepAt, first_action, one, whole_output}
 use Rattle.vc_occam.specs.Private.Sites.{PartsInPreorder}
 use Rattle.vc_occam.specs.Sites.{site}
-use Rattle.vc_occam.specs.Remains.{Rest, Done, Beside, beside_on, Step, in_left, in_right}
-use Rattle.vc_occam.specs.Traces.{Comm}
+use Rattle.vc_occam.specs.Remains.{Rest, Done, Beside, beside_on, in_left, in_right}
 use Rattle.vc_occam.specs.Frames.{View, all_sound, besides, is_sound, left_by, outcome_of, par, plans_of, task_view, view}
 use Rattle.vc_occam.specs.Private.Frames.{Able, CanGo, Did, Went, assigned_at, has_ended, place_with, seen_task, shown, task_views, unstopped}
-use Rattle.vc_occam.proofs.Doers.{AllWithin, able_site, besides_sites, found_assigned, not_before, not_behind, part_at}
-use Rattle.vc_occam.proofs.Endings.{beside_goes, does_go, goes_beside, left_ended, left_same}
+use Rattle.vc_occam.proofs.Doers.{able_site}
+use Rattle.vc_occam.proofs.PartOfSite.{AllWithin, besides_sites, found_assigned, not_before, not_behind, part_at}
+use Rattle.vc_occam.proofs.Endings.{goes_on, left_ended, left_same}
+use Rattle.vc_occam.proofs.Lifting.{left_is, left_steps, right_is, right_steps}
 use Rattle.vc_occam.proofs.Inside.{tasks_inside}
 use Rattle.vc_occam.proofs.PartSteps.{part_changes, part_is_changed, part_is_in_preorder, part_is_sound, parts_still_sound, same_plans}
 use Rattle.vc_occam.proofs.Outcomes.{task_outcome}
@@ -32,8 +33,8 @@ use Rattle.vc_occam.proofs.Sites.{clash}
 -- where one part goes on, all do
 pub besides_go : (vs : List View) (k : ℕ) (v : View) → slice_get vs k ≡ Some v → has_ended (outcome_of v.rest) ≡ false → outcome_of (besides vs) ≡ outcome.Other
 besides_go [] k v h g = absurd (let z : None ≡ Some v = h in cc)
-besides_go (u ∷ vs) zero v h g = let e : v ≡ u = cc in ap outcome_of (beside_goes (changes u.plan) u.rest (besides vs) (ap (λ (x : View). has_ended (outcome_of x.rest)) (sym e) ∙ g))
-besides_go (u ∷ vs) (suc k) v h g = ap outcome_of (goes_beside (changes u.plan) u.rest (besides vs) (ap has_ended (besides_go vs k v h g)))
+besides_go (u ∷ vs) zero v h g = let e : v ≡ u = cc in ap outcome_of (left_is (changes u.plan) u.rest (besides vs) (goes_on (ap (λ (x : View). has_ended (outcome_of x.rest)) (sym e) ∙ g)))
+besides_go (u ∷ vs) (suc k) v h g = ap outcome_of (right_is (changes u.plan) u.rest (besides vs) (goes_on (ap has_ended (besides_go vs k v h g))))
 
 pub besides_more : (vs : List View) (k : ℕ) (v : View) → slice_get vs k ≡ Some v → v.rest ≡ Done → besides (drop (suc k) vs) ≡ Done → besides (drop k vs) ≡ Done
 besides_more [] k v h g e = absurd (let z : None ≡ Some v = h in cc)
@@ -114,19 +115,13 @@ module _ (step : StepAt) (i : ℕ) (ts : List (Task Frame)) (vars : List Datum) 
       }
 
 -- what one part does, all do
-left_steps : {i : ℕ} {d : SiteAction} {ks : List Comm} {s : Rest} {e f : Store} (mine : Set) (r q : Rest) → Step r e i d ks s f → Step (beside_on mine r q) e i d ks (beside_on mine s q) f
-left_steps {i = i} {d = d} {ks = ks} {s = s} {e = e} {f = f} mine r q st = subst (λ (x : Rest). Step x e i d ks (beside_on mine s q) f) (sym (beside_goes mine r q (does_go r st))) (in_left st)
-
-right_steps : {i : ℕ} {d : SiteAction} {ks : List Comm} {s : Rest} {e f : Store} (mine : Set) (r q : Rest) → Step q e i d ks s f → Step (beside_on mine r q) e i d ks (beside_on mine r s) f
-right_steps {i = i} {d = d} {ks = ks} {s = s} {e = e} {f = f} mine r q st = subst (λ (x : Rest). Step x e i d ks (beside_on mine r s) f) (sym (goes_beside mine r q (does_go q st))) (in_right st)
-
 left_did : (mine : Set) (r s q : Rest) (e f : Store) (i : ℕ) (ds : Actions) → Did r e i ds s f → Did (beside_on mine r q) e i ds (beside_on mine s q) f
-left_did mine r s q e f i (one d) (ks, st) = (ks, left_steps mine r q st)
-left_did mine r s q e f i (whole_output c) (ks, m, g, ls, begins, finishes) = (ks, beside_on mine m q, g, ls, left_steps mine r q begins, left_steps mine m q finishes)
+left_did mine r s q e f i (one d) (ks, st) = (ks, left_steps st mine q)
+left_did mine r s q e f i (whole_output c) (ks, m, g, ls, begins, finishes) = (ks, beside_on mine m q, g, ls, left_steps begins mine q, left_steps finishes mine q)
 
 right_did : (mine : Set) (r q s : Rest) (e f : Store) (i : ℕ) (ds : Actions) → Did q e i ds s f → Did (beside_on mine r q) e i ds (beside_on mine r s) f
-right_did mine r q s e f i (one d) (ks, st) = (ks, right_steps mine r q st)
-right_did mine r q s e f i (whole_output c) (ks, m, g, ls, begins, finishes) = (ks, beside_on mine r m, g, ls, right_steps mine r q begins, right_steps mine r m finishes)
+right_did mine r q s e f i (one d) (ks, st) = (ks, right_steps st mine r)
+right_did mine r q s e f i (whole_output c) (ks, m, g, ls, begins, finishes) = (ks, beside_on mine r m, g, ls, right_steps begins mine r, right_steps finishes mine r)
 
 besides_did : (vs : List View) (k : ℕ) (v w : View) (e f : Store) (i : ℕ) (ds : Actions) → slice_get vs k ≡ Some v → w.plan ≡ v.plan → Did v.rest e i ds w.rest f → Did (besides vs) e i ds (besides (set vs k w)) f
 besides_did [] k v w e f i ds is h a = absurd (let z : None ≡ Some v = is in cc)
@@ -138,9 +133,7 @@ besides_did (u ∷ vs) (suc k) v w e f i ds is h a = right_did (changes u.plan) 
 
 left_twice : (o : Outcome) (r : Rest) → left_by o (left_by o r) ≡ left_by o r
 left_twice outcome.Ended r = refl
-left_twice outcome.Nothing r = refl
-left_twice (outcome.Quiet i) r = refl
-left_twice outcome.Other r = refl
+left_twice o r = refl
 
 module _ (step : StepAt) (i : ℕ) (ts : List (Task Frame)) (k : ℕ) (v : View) (is : slice_get (task_views ts) k ≡ Some v) (sound : is_sound (par (map seen_task ts)) ≡ true) (e f : Store) (o : Outcome) (t : Task Frame) (begins : t.begins ≡ o) (went : Went step v e o (shown t) f) where
   changed : task_views (set ts k t) ≡ set (task_views ts) k (shown t)

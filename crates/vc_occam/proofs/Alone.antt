@@ -20,9 +20,6 @@ met_same (Some m) inside xs ys h q = ap (λ ms. joined inside ms ms) h ∙ q
 
 -- two parts have the moves of both
 pub two_own : (ts : List (Task Frame)) (t u : Task Frame) (e : Store) → length ts ≡ 2 → t ≡ get_or ts 0 t → u ≡ get_or ts 1 u → own (besides (task_views ts)) e ≡ own (shown t).rest e ++ own (shown u).rest e
-two_own [] t u e l a b = absurd (omega (arith, l))
-two_own (x ∷ []) t u e l a b = absurd (omega (arith, l))
-two_own (x ∷ y ∷ z ∷ ts) t u e l a b = absurd (omega (arith, l))
 two_own (x ∷ y ∷ []) t u e l a b =
     let first = ap (λ (s : Task Frame). own (shown s).rest e) (sym a) in
     let second = ap (λ (s : Task Frame). own (shown s).rest e) (sym b) in
@@ -30,6 +27,7 @@ two_own (x ∷ y ∷ []) t u e l a b =
     let ns = own (shown y).rest e in
     let alone = beside_own (changes (shown y).plan) (shown y).rest (besides []) e ∙ append-nil ns in
     beside_own (changes (shown x).plan) (shown x).rest (besides (task_views (y ∷ []))) e ∙ ap (λ zs. ms ++ zs) alone ∙ ap (λ zs. zs ++ ns) first ∙ ap (λ zs. own (shown t).rest e ++ zs) second
+two_own x t u e l a b = absurd (omega (arith, l))
 
 same_chan : (c : ℕ) → (c == c) ≡ true
 same_chan c = grind (arith, nat_tests)

@@ -1,5 +1,5 @@
 -- What a frame remains whose own site is at work.
-use Rattle.std.proofs.Common.{◌≡◌, ℕ, zero, suc, ◌<◌, Bool, true, false, ◌&&◌, refl, ap, sym, ◌∙◌, subst, List, [], ◌∷◌, length, map, Option, Some, None, get_or, arith, if◌then◌else◌}
+use Rattle.std.proofs.Common.{◌≡◌, ℕ, ◌<◌, Bool, true, false, ◌&&◌, refl, ap, sym, ◌∙◌, subst, List, [], ◌∷◌, length, map, Option, Some, None, get_or, arith, if◌then◌else◌}
 use Rattle.std.proofs.lemmas.Bool.{and_parts}
 use Rattle.std.proofs.lemmas.Bool.Decides.{nat_tests}
 use Rattle.std.proofs.lemmas.List.{length-map}
@@ -18,11 +18,11 @@ use Rattle.vc_process.specs.Syntax.{ALT, Given}
 use Rattle.vc_process.specs.Values.{Store, assigned_bytes, datum_of}
 use Rattle.vc_occam.specs.BlockedParts.{blocked}
 use Rattle.vc_occam.specs.First.{own}
-use Rattle.vc_occam.specs.Frames.{View, Shape, skip, empty_seq, empty_par, stop, assign, send, receive, stop_chan, seq, par, branching, looping, counting, guarding, all_sound, guarded, guards_of, has_guard, is_at_itself, is_sound, plan_of, rest_of, taken_rest, view, view_of}
+use Rattle.vc_occam.specs.Frames.{View, Shape, stop, assign, send, receive, stop_chan, seq, par, branching, looping, counting, guarding, all_sound, guarded, guards_of, has_guard, is_at_itself, is_sound, plan_of, rest_of, taken_rest, view, view_of}
 use Rattle.vc_occam.specs.Private.Frames.{alt_shape, assigned_at, goes_alone, is_open_alt, seen_guard, shape}
 use Rattle.vc_occam.specs.Remains.{Rest, Fresh, Stopped}
 use Rattle.vc_occam.specs.States.{output_at, waiting}
-use Rattle.vc_occam.proofs.Views.{view_out}
+use Rattle.vc_occam.proofs.Views.{map_get, view_out}
 
 pub sound_parts : (i : ℕ) (stopped : Bool) (s : Shape) → (view_of i stopped s).sound ≡ true → is_sound s ≡ true
 sound_parts i true s h = (and_parts (is_at_itself s) (is_sound s) h).1
@@ -63,20 +63,8 @@ goes_on f c h e n = on (out-Frame f).stopped refl
         absurd (let z : true ≡ false = sym b ∙ n in cc)
 
 alone_itself : (c : Construct Frame) → ((p : _) → c ≡ run.Par p → ⊥) → goes_alone (shape c) ≡ true → is_at_itself (shape c) ≡ true
-alone_itself run.Skip n h = h
-alone_itself run.EmptySeq n h = h
-alone_itself run.EmptyPar n h = h
-alone_itself run.Stop n h = h
-alone_itself (run.Set a) n h = h
-alone_itself (run.Send o) n h = h
-alone_itself (run.Receive i) n h = h
-alone_itself (run.Stopch c) n h = h
-alone_itself (run.Seq s) n h = h
 alone_itself (run.Par p) n h = absurd (n p refl)
-alone_itself (run.If b) n h = h
-alone_itself (run.While w) n h = h
-alone_itself (run.Count c) n h = h
-alone_itself (run.Alt a) n h = h
+alone_itself c n h = h
 
 -- what is no PAR and goes on at no part alone is at itself
 pub at_itself : (f : Frame) → ((p : _) → (out-Frame f).construct ≡ run.Par p → ⊥) → goes_alone (shape (out-Frame f).construct) ≡ true → is_at_itself (shape (out-Frame f).construct) ≡ true
@@ -91,23 +79,15 @@ is_waiter s = false
 
 -- any other that is at itself hasn't begun
 pub fresh_shape : (i : ℕ) (s : Shape) → is_at_itself s ≡ true → is_waiter s ≡ false → rest_of i s ≡ Fresh (plan_of i s)
-fresh_shape i skip h q = refl
-fresh_shape i empty_seq h q = refl
-fresh_shape i empty_par h q = refl
-fresh_shape i stop h q = refl
-fresh_shape i (assign v a) h q = refl
 fresh_shape i (send c a b) h q = absurd cc
 fresh_shape i (receive c v b) h q = absurd cc
-fresh_shape i (stop_chan c) h q = refl
 fresh_shape i (seq vs k) h q = absurd cc
 fresh_shape i (par ts) h q = absurd cc
-fresh_shape i (branching bs None) h q = refl
 fresh_shape i (branching bs (Some k)) h q = absurd cc
 fresh_shape i (looping b v true) h q = absurd cc
-fresh_shape i (looping b v false) h q = refl
-fresh_shape i (counting x a n v None) h q = refl
 fresh_shape i (counting x a n v (Some t)) h q = absurd cc
 fresh_shape i (guarding gs c) h q = absurd cc
+fresh_shape i s h q = refl
 
 -- what begins with a quiet step
 abbrev is_quiet : Shape → Bool
@@ -129,20 +109,12 @@ quiet_shape i (guarding gs c) e h q = absurd cc
 quiet_shape i s e h q = ap (λ (r : Rest). own r e) (fresh_shape i s h refl)
 
 quiet_construct : (c : Construct Frame) → (c ≡ run.Stop → ⊥) → ((x : _) → c ≡ run.Send x → ⊥) → ((x : _) → c ≡ run.Receive x → ⊥) → ((x : _) → c ≡ run.Stopch x → ⊥) → ((x : _) → c ≡ run.Alt x → ⊥) → is_quiet (shape c) ≡ true
-quiet_construct run.Skip s o n d a = refl
-quiet_construct run.EmptySeq s o n d a = refl
-quiet_construct run.EmptyPar s o n d a = refl
 quiet_construct run.Stop s o n d a = absurd (s refl)
-quiet_construct (run.Set x) s o n d a = refl
 quiet_construct (run.Send x) s o n d a = absurd (o x refl)
 quiet_construct (run.Receive x) s o n d a = absurd (n x refl)
 quiet_construct (run.Stopch x) s o n d a = absurd (d x refl)
-quiet_construct (run.Seq x) s o n d a = refl
-quiet_construct (run.Par x) s o n d a = refl
-quiet_construct (run.If x) s o n d a = refl
-quiet_construct (run.While x) s o n d a = refl
-quiet_construct (run.Count x) s o n d a = refl
 quiet_construct (run.Alt x) s o n d a = absurd (a x refl)
+quiet_construct c s o n d a = refl
 
 pub quiet_move : (i : ℕ) (c : Construct Frame) (e : Store) → is_at_itself (shape c) ≡ true → (c ≡ run.Stop → ⊥) → ((x : _) → c ≡ run.Send x → ⊥) → ((x : _) → c ≡ run.Receive x → ⊥) → ((x : _) → c ≡ run.Stopch x → ⊥) → ((x : _) → c ≡ run.Alt x → ⊥) →
     own (rest_of i (shape c)) e ≡ move.Quiet i ∷ []
@@ -152,20 +124,10 @@ wait_shape : (i : ℕ) (s : Shape) → is_at_itself s ≡ true → is_waiter s �
 wait_shape i s h q = ap waiting (fresh_shape i s h q)
 
 wait_construct : (c : Construct Frame) → ((x : _) → c ≡ run.Send x → ⊥) → ((x : _) → c ≡ run.Receive x → ⊥) → ((x : _) → c ≡ run.Alt x → ⊥) → is_waiter (shape c) ≡ false
-wait_construct run.Skip o n a = refl
-wait_construct run.EmptySeq o n a = refl
-wait_construct run.EmptyPar o n a = refl
-wait_construct run.Stop o n a = refl
-wait_construct (run.Set x) o n a = refl
 wait_construct (run.Send x) o n a = absurd (o x refl)
 wait_construct (run.Receive x) o n a = absurd (n x refl)
-wait_construct (run.Stopch x) o n a = refl
-wait_construct (run.Seq x) o n a = refl
-wait_construct (run.Par x) o n a = refl
-wait_construct (run.If x) o n a = refl
-wait_construct (run.While x) o n a = refl
-wait_construct (run.Count x) o n a = refl
 wait_construct (run.Alt x) o n a = absurd (a x refl)
+wait_construct c o n a = refl
 
 pub no_wait : (i : ℕ) (c : Construct Frame) → is_at_itself (shape c) ≡ true → ((x : _) → c ≡ run.Send x → ⊥) → ((x : _) → c ≡ run.Receive x → ⊥) → ((x : _) → c ≡ run.Alt x → ⊥) → waiting (rest_of i (shape c)) ≡ []
 no_wait i c h o n a = wait_shape i (shape c) h (wait_construct c o n a)
@@ -188,20 +150,11 @@ block_shape i (guarding gs c) e h q = absurd cc
 block_shape i s e h q = ap (λ (r : Rest). blocked r e) (fresh_shape i s h refl)
 
 block_construct : (c : Construct Frame) → (c ≡ run.Stop → ⊥) → ((x : _) → c ≡ run.Send x → ⊥) → ((x : _) → c ≡ run.Receive x → ⊥) → ((x : _) → c ≡ run.Alt x → ⊥) → is_blocker (shape c) ≡ false
-block_construct run.Skip s o n a = refl
-block_construct run.EmptySeq s o n a = refl
-block_construct run.EmptyPar s o n a = refl
 block_construct run.Stop s o n a = absurd (s refl)
-block_construct (run.Set x) s o n a = refl
 block_construct (run.Send x) s o n a = absurd (o x refl)
 block_construct (run.Receive x) s o n a = absurd (n x refl)
-block_construct (run.Stopch x) s o n a = refl
-block_construct (run.Seq x) s o n a = refl
-block_construct (run.Par x) s o n a = refl
-block_construct (run.If x) s o n a = refl
-block_construct (run.While x) s o n a = refl
-block_construct (run.Count x) s o n a = refl
 block_construct (run.Alt x) s o n a = absurd (a x refl)
+block_construct c s o n a = refl
 
 pub no_block : (i : ℕ) (c : Construct Frame) (e : Store) → is_at_itself (shape c) ≡ true → (c ≡ run.Stop → ⊥) → ((x : _) → c ≡ run.Send x → ⊥) → ((x : _) → c ≡ run.Receive x → ⊥) → ((x : _) → c ≡ run.Alt x → ⊥) → blocked (rest_of i (shape c)) e ≡ []
 no_block i c e h s o n a = block_shape i (shape c) e h (block_construct c s o n a)
@@ -270,52 +223,16 @@ closed_shape i (guarding gs c) h q = absurd cc
 closed_shape i s h q = ap is_open_alt (fresh_shape i s h refl)
 
 send_construct : (c : Construct Frame) → ((x : _) → c ≡ run.Send x → ⊥) → is_send (shape c) ≡ false
-send_construct run.Skip o = refl
-send_construct run.EmptySeq o = refl
-send_construct run.EmptyPar o = refl
-send_construct run.Stop o = refl
-send_construct (run.Set x) o = refl
 send_construct (run.Send x) o = absurd (o x refl)
-send_construct (run.Receive x) o = refl
-send_construct (run.Stopch x) o = refl
-send_construct (run.Seq x) o = refl
-send_construct (run.Par x) o = refl
-send_construct (run.If x) o = refl
-send_construct (run.While x) o = refl
-send_construct (run.Count x) o = refl
-send_construct (run.Alt x) o = refl
+send_construct c o = refl
 
 assign_construct : (c : Construct Frame) → ((x : _) → c ≡ run.Set x → ⊥) → is_assign (shape c) ≡ false
-assign_construct run.Skip o = refl
-assign_construct run.EmptySeq o = refl
-assign_construct run.EmptyPar o = refl
-assign_construct run.Stop o = refl
 assign_construct (run.Set x) o = absurd (o x refl)
-assign_construct (run.Send x) o = refl
-assign_construct (run.Receive x) o = refl
-assign_construct (run.Stopch x) o = refl
-assign_construct (run.Seq x) o = refl
-assign_construct (run.Par x) o = refl
-assign_construct (run.If x) o = refl
-assign_construct (run.While x) o = refl
-assign_construct (run.Count x) o = refl
-assign_construct (run.Alt x) o = refl
+assign_construct c o = refl
 
 guarding_construct : (c : Construct Frame) → ((x : _) → c ≡ run.Alt x → ⊥) → is_guarding (shape c) ≡ false
-guarding_construct run.Skip o = refl
-guarding_construct run.EmptySeq o = refl
-guarding_construct run.EmptyPar o = refl
-guarding_construct run.Stop o = refl
-guarding_construct (run.Set x) o = refl
-guarding_construct (run.Send x) o = refl
-guarding_construct (run.Receive x) o = refl
-guarding_construct (run.Stopch x) o = refl
-guarding_construct (run.Seq x) o = refl
-guarding_construct (run.Par x) o = refl
-guarding_construct (run.If x) o = refl
-guarding_construct (run.While x) o = refl
-guarding_construct (run.Count x) o = refl
 guarding_construct (run.Alt x) o = absurd (o x refl)
+guarding_construct c o = refl
 
 pub no_output : (j i : ℕ) (c : Construct Frame) (e : Store) → is_at_itself (shape c) ≡ true → ((x : _) → c ≡ run.Send x → ⊥) → output_at j (rest_of i (shape c)) e ≡ None
 no_output j i c e h o = output_shape_none j i (shape c) e h (send_construct c o)
@@ -377,15 +294,9 @@ none_taken i gs Open h d n = cc
 none_taken i gs (Taken k) h d n = n k refl
 none_taken i gs (Within k) h d n = cc
 
--- what is at a place, seen
-pub get_seen : {X Y : Type 0} (see : X → Y) (xs : List X) (k : ℕ) (x : X) → k < length xs → x ≡ get_or xs k x → slice_get (map see xs) k ≡ Some (see x)
-get_seen see [] k x l h = absurd (omega arith)
-get_seen see (y ∷ xs) zero x l h = ap (λ z. Some (see z)) (sym h)
-get_seen see (y ∷ xs) (suc k) x l h = get_seen see xs k x (omega arith) h
-
 -- the guard that it took
 pub taken_is : (i : ℕ) (gs : List (Guard Frame)) (c : Choice) (k : ℕ) (g : Guard Frame) → c ≡ Taken k → k < length gs → g ≡ get_or gs k g → rest_of i (guarding (map seen_guard gs) c) ≡ taken_rest i (Some (seen_guard g))
-taken_is i gs c k g h l e = ap (λ (d : Choice). rest_of i (guarding (map seen_guard gs) d)) h ∙ ap (taken_rest i) (get_seen seen_guard gs k g l e)
+taken_is i gs c k g h l e = ap (λ (d : Choice). rest_of i (guarding (map seen_guard gs) d)) h ∙ ap (taken_rest i) (map_get seen_guard gs k g l e)
 
 has_taken : (c : Choice) (k n : ℕ) → c ≡ Taken k → has_guard c n ≡ true → k < n
 has_taken Open k n h q = absurd cc

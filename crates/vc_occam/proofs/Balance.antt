@@ -4,7 +4,7 @@ use Rattle.vc_process.specs.declared.datum.Datum.{Datum}
 use Rattle.vc_process.specs.Syntax.{Proc, Procs, Branches, Guards}
 use Rattle.vc_process.specs.Values.{Store}
 use Rattle.vc_process.specs.Usage.{Set, changes}
-use Rattle.vc_occam.specs.Traces.{Comm, In, End, Open, Ended, Merge, both_ended, Trace, cut, skip, assign, begin_out, out, input, stop_chan, seq, par, choose, leave, last_turn, turn, count, select, TraceSeq, seq_end, seq_open, seq_next, TracePar, par_end, par_more, TraceIf, here, further, TraceCount, counted, count_open, count_turn, TraceAlt, this, that}
+use Rattle.vc_occam.specs.Traces.{Comm, In, End, Open, Ended, Merge, both_ended, Trace, seq, par, choose, last_turn, turn, count, select, TraceSeq, seq_end, seq_open, seq_next, TracePar, par_end, par_more, TraceIf, here, further, TraceCount, counted, count_open, count_turn, TraceAlt, this, that}
 use Rattle.vc_occam.proofs.Counts.{outs, fins, outs_append, fins_append, outs_merge, fins_merge}
 
 abbrev pub Balances : ℕ → List Comm → End → Type 0
@@ -31,21 +31,14 @@ balanced_in c d x t (Ended f) h = omega arith
 module _ (c : ℕ) where
   mutual
     pub balanced : {p : Proc} {e : Store} {t : List Comm} {x : End} → Trace p e t x → Balances c t x
-    balanced cut = omega arith
-    balanced skip = omega arith
-    balanced (assign q) = omega arith
-    balanced (begin_out q) = omega arith
-    balanced (out q) = omega arith
-    balanced (input k) = omega arith
-    balanced stop_chan = omega arith
     balanced (seq q) = balanced_seq q
     balanced (par q) = balanced_par q
     balanced (choose q) = balanced_if q
-    balanced (leave q) = omega arith
     balanced (last_turn h q) = balanced q
     balanced (turn {t = t} {u = u} {x = x} h q r) = balanced_append c t u x (balanced q) (balanced r)
     balanced (count h q) = balanced_count q
     balanced (select h q) = balanced_alt q
+    balanced t = omega arith
 
     pub balanced_seq : {ps : Procs} {e : Store} {t : List Comm} {x : End} → TraceSeq ps e t x → Balances c t x
     balanced_seq seq_end = omega arith

@@ -16,12 +16,12 @@ use Rattle.vc_process.specs.Syntax.{Exp, Test, Proc, IF, WHILE, COUNT, ALT, no_p
 use Rattle.vc_process.specs.Terms.{as_test, store}
 use Rattle.vc_process.specs.Usage.{changes, changes_branches, changes_guards, just}
 use Rattle.vc_process.specs.Values.{Store}
-use Rattle.vc_occam.specs.Remains.{Rest, Done, Fresh, Then, Turns, Step, in_turns, index_on, turns_on}
-use Rattle.vc_occam.specs.Traces.{Comm}
+use Rattle.vc_occam.specs.Remains.{Rest, Done, Fresh, Then, Turns, in_turns, index_on, turns_on}
 use Rattle.vc_occam.specs.Frames.{View, all_sound, bodies, branches_of, branching, counting, follow, guarded, guarding, guards_of, has_place, is_sound, left_by, looping, outcome_of, rest_of, turns_left}
 use Rattle.vc_occam.specs.Private.Frames.{Able, CanGo, Did, HasTurned, Went, assigned_at, has_ended, turns_behind, unstopped}
 use Rattle.vc_occam.specs.Private.Sites.{InPreorder, BranchesInPreorder, GuardsInPreorder}
-use Rattle.vc_occam.proofs.Endings.{does_go, left_goes, left_ended, index_stays, turns_go}
+use Rattle.vc_occam.proofs.Endings.{goes_on, left_goes, left_ended}
+use Rattle.vc_occam.proofs.Lifting.{index_is, turns_is, turns_steps}
 use Rattle.vc_occam.proofs.PartSteps.{part_is_changed, part_is_sound, parts_still_sound, then_able, then_did, then_ended, then_outcome}
 use Rattle.vc_occam.proofs.Stores.{or_left, or_right}
 
@@ -194,15 +194,9 @@ counted_able : (r : Rest) (v : ℕ) (b : ℤ) (n : ℕ) (p : _) (e : Store) (s :
 counted_able r v b n p e s d (ks, q, f, in_turns {r' = r'} {e' = e'} st) = (ks, r', e', st)
 
 -- what it does, it does with the turns behind it
-turns_steps : {i : ℕ} {d : SiteAction} {ks : List Comm} {q : Rest} {e f : Store} (r : Rest) (v : ℕ) (b : ℤ) (n : ℕ) (p : Proc) → Step r e i d ks q f → Step (turns_on r v b n p) (index_on r v b n e) i d ks (turns_on q v b n p) (index_on q v b n f)
-turns_steps {i = i} {d = d} {ks = ks} {q = q} {e = e} {f = f} r v b n p st =
-    let goes = does_go r st in
-    subst (λ (x : Rest). Step x (index_on r v b n e) i d ks (turns_on q v b n p) (index_on q v b n f)) (sym (turns_go r v b n p goes))
-    (subst (λ (g : Store). Step (Turns r v b n p) g i d ks (turns_on q v b n p) (index_on q v b n f)) (sym (index_stays r v b n e goes)) (in_turns st))
-
 in_turns_did : (r q : Rest) (v : ℕ) (b : ℤ) (n : ℕ) (p : Proc) (e f : Store) (i : ℕ) (ds : Actions) → Did r e i ds q f → Did (Turns r v b n p) e i ds (turns_on q v b n p) (index_on q v b n f)
 in_turns_did r q v b n p e f i (one d) (ks, st) = (ks, in_turns st)
-in_turns_did r q v b n p e f i (whole_output c) (ks, m, g, ls, begins, finishes) = (ks, turns_on m v b n p, index_on m v b n g, ls, in_turns begins, turns_steps m v b n p finishes)
+in_turns_did r q v b n p e f i (whole_output c) (ks, m, g, ls, begins, finishes) = (ks, turns_on m v b n p, index_on m v b n g, ls, in_turns begins, turns_steps finishes v b n p)
 
 module _ (step : StepAt) (i x : ℕ) (a n : Exp) (v : View) (t : Turn) where
   pub count_part : (vars : List Datum) → CanGo step (unstopped i (counting x a n v (Some t))) vars → CanGo step v vars
@@ -223,8 +217,8 @@ module _ (step : StepAt) (i x : ℕ) (a n : Exp) (v : View) (t : Turn) where
       let is : o ≡ outcome_of w.rest = went.outcome ∙ ap outcome_of left in
       let goes : has_ended (outcome_of w.rest) ≡ false = ap has_ended (sym is) ∙ still in
       let whole = in_turns_did v.rest w.rest x b m v.plan e f step.site step.actions (subst (λ (r : Rest). Did v.rest e step.site step.actions r f) left went.did) in
-      let by_store = subst (λ (g : Store). Did (Turns v.rest x b m v.plan) e step.site step.actions (turns_on w.rest x b m v.plan) g) (index_stays w.rest x b m f goes) whole in
-      let after : left_by o (Turns w.rest x b m w.plan) ≡ turns_on w.rest x b m v.plan = left_goes o (Turns w.rest x b m w.plan) still ∙ ap (Turns w.rest x b m) went.plan ∙ sym (turns_go w.rest x b m v.plan goes) in
+      let by_store = subst (λ (g : Store). Did (Turns v.rest x b m v.plan) e step.site step.actions (turns_on w.rest x b m v.plan) g) (index_is w.rest x b m f (goes_on goes)) whole in
+      let after : left_by o (Turns w.rest x b m w.plan) ≡ turns_on w.rest x b m v.plan = left_goes o (Turns w.rest x b m w.plan) still ∙ ap (Turns w.rest x b m) went.plan ∙ sym (turns_is w.rest x b m v.plan (goes_on goes)) in
       record {
         did = subst (λ (r : Rest). Did (Turns v.rest x b m v.plan) e step.site step.actions r f) (sym after) by_store;
         plan = ap (COUNT i x a n) went.plan;

@@ -9,7 +9,7 @@ use Rattle.std.specs.Ordering.{is_lt, nat_cmp}
 use Rattle.std.specs.declared.cmp.Ordering.TheVariants.{Equal}
 use Rattle.std.specs.Prelude.{◌==◌, ◌&&◌, None, Some, not, if◌then◌else◌}
 use Rattle.vc_occam.specs.declared.moves.Move.{Move}
-use Rattle.vc_occam.specs.declared.moves.Move.TheVariants.{Offer, Want, Choose, Stopch, Inner, Quiet}
+use Rattle.vc_occam.specs.declared.moves.Move.TheVariants.{Want, Choose, Inner}
 use Rattle.vc_occam.specs.First.{meetings}
 use Rattle.vc_occam.specs.Private.Receivers.{key}
 
@@ -18,20 +18,14 @@ apart c d h = grind (arith, nat_tests)
 
 -- a move with another key meets nothing
 unmet : (s c : ℕ) (m : Move) (ms : List Move) → (key m ≡ suc c → ⊥) → meetings s c (m ∷ ms) ≡ meetings s c ms
-unmet s c (Offer i d) ms h = refl
 unmet s c (Want j d) ms h = ap (λ b. (if b then (Inner s j None c ∷ []) else []) ++ meetings s c ms) (apart c d h)
 unmet s c (Choose j k d) ms h = ap (λ b. (if b then (Inner s j (Some k) c ∷ []) else []) ++ meetings s c ms) (apart c d h)
-unmet s c (Stopch i d) ms h = refl
-unmet s c (Inner i j k d) ms h = refl
-unmet s c (Quiet i) ms h = refl
+unmet s c m ms h = refl
 
 behind : (s c : ℕ) (m : Move) (xs ys : List Move) → meetings s c xs ≡ meetings s c ys → meetings s c (m ∷ xs) ≡ meetings s c (m ∷ ys)
-behind s c (Offer i d) xs ys e = e
 behind s c (Want j d) xs ys e = ap (λ zs. (if c == d then (Inner s j None c ∷ []) else []) ++ zs) e
 behind s c (Choose j k d) xs ys e = ap (λ zs. (if c == d then (Inner s j (Some k) c ∷ []) else []) ++ zs) e
-behind s c (Stopch i d) xs ys e = e
-behind s c (Inner i j k d) xs ys e = e
-behind s c (Quiet i) xs ys e = e
+behind s c m xs ys e = e
 
 none_met : (s c : ℕ) (ms : List Move) → ((k : ℕ) (d : Move) → k < length ms → key (get_or ms k d) ≡ suc c → ⊥) → meetings s c ms ≡ []
 none_met s c [] h = refl

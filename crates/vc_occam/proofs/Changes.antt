@@ -1,6 +1,6 @@
 -- A process uses what it changes.
 use Rattle.std.proofs.Common.{◌≡◌, ℕ, Bool, true, false, ◌||◌, refl}
-use Rattle.vc_process.specs.Syntax.{Proc, SKIP, STOP, Assign, Output, Input, StopChan, SEQ, PAR, IF, WHILE, COUNT, ALT, Procs, no_parts, part, Branches, no_branches, branch, Guards, no_guards, guard}
+use Rattle.vc_process.specs.Syntax.{Proc, Assign, Input, SEQ, PAR, IF, WHILE, COUNT, ALT, Procs, no_parts, part, Branches, no_branches, branch, Guards, no_guards, guard}
 use Rattle.vc_process.specs.Usage.{◌∪◌, just, in_exp, in_test, in_given, changes, changes_all, changes_branches, changes_guards, uses, uses_all, uses_branches, uses_guards}
 use Rattle.vc_occam.proofs.Stores.{or_left, or_right}
 
@@ -10,18 +10,15 @@ or_both false b c d f g h = or_right c d (g h)
 
 mutual
   pub changed_used : (p : Proc) (v : ℕ) → changes p v ≡ true → uses p v ≡ true
-  changed_used (SKIP i) v h = absurd (cc)
-  changed_used (STOP i) v h = absurd (cc)
   changed_used (Assign i w a) v h = or_left (just w v) (in_given a v) h
-  changed_used (Output i c a) v h = absurd (cc)
   changed_used (Input i c w) v h = h
-  changed_used (StopChan i c) v h = absurd (cc)
   changed_used (SEQ i ps) v h = all_changed_used ps v h
   changed_used (PAR i ps) v h = all_changed_used ps v h
   changed_used (IF i bs) v h = branches_changed_used bs v h
   changed_used (WHILE i t p) v h = or_right (in_test t v) (uses p v) (changed_used p v h)
   changed_used (COUNT i w a n p) v h = or_both (just w v) (changes p v) ((just w ∪ (in_exp a ∪ in_exp n)) v) (uses p v) (or_left (just w v) ((in_exp a ∪ in_exp n) v)) (changed_used p v) h
   changed_used (ALT i gs) v h = guards_changed_used gs v h
+  changed_used p v h = absurd (cc)
 
   all_changed_used : (ps : Procs) (v : ℕ) → changes_all ps v ≡ true → uses_all ps v ≡ true
   all_changed_used no_parts v h = absurd (cc)

@@ -1,7 +1,7 @@
 -- Of two steps, one right after the other, the second may be made first where it could be: after an output began, and before one is
 -- finished.
-use Rattle.std.proofs.Common.{◌≡◌, ℕ, ℤ, true, false, eqb, arith, refl, sym, ap, subst, ◌∙◌, List, [], ◌∷◌}
-use Rattle.std.proofs.lemmas.Bool.Decides.{nat_tests}
+use Rattle.std.proofs.Common.{◌≡◌, ℕ, ℤ, true, false, eqb, refl, sym, ap, subst, ◌∙◌, List, [], ◌∷◌}
+use Rattle.std.proofs.lemmas.Bool.{eqb-true}
 use Rattle.std.specs.List.{Contains}
 use Rattle.vc_process.specs.declared.datum.Datum.{Datum}
 use Rattle.vc_process.proofs.Lists.{none}
@@ -18,16 +18,14 @@ use Rattle.vc_occam.proofs.Made.{began}
 use Rattle.vc_occam.proofs.Sites.{clash, not_true}
 use Rattle.vc_occam.proofs.Stores.{set_swap}
 use Rattle.vc_occam.proofs.StepWaits.{step_waits, then_waits, turns_waits}
-use Rattle.vc_occam.proofs.Interleavings.{goes, then_is, turns_is, index_is, left_is, right_is, beside_is, then_step, turns_step, kept}
+use Rattle.vc_occam.proofs.Interleavings.{beside_is, kept}
+use Rattle.vc_occam.proofs.Lifting.{goes, index_is, left_steps, right_steps, then_is, then_steps, turns_is, turns_steps}
 
 -- what is written in sets that have nothing in common is written in either order
 one_swap : (b : Set) (v : ℕ) (x : Datum) (ws : Written) (e : Store) → b v ≡ false → AllIn b ws → set (write ws e) v x ≡ write ws (set e v x)
 one_swap b v x [] e h a = refl
 one_swap b v x (w ∷ ws) e h a =
-    one_swap b v x ws (set e w.0 w.1) h a.1 ∙ ap (write ws) (set_swap e w.0 w.1 v x (not_true (eqb w.0 v) (λ q. clash (subst (λ z. b z ≡ true) (eqb_is w.0 v q) a.0) h)))
-  where
-    eqb_is : (v k : ℕ) → eqb v k ≡ true → v ≡ k
-    eqb_is v k h = grind (arith, nat_tests)
+    one_swap b v x ws (set e w.0 w.1) h a.1 ∙ ap (write ws) (set_swap e w.0 w.1 v x (not_true (eqb w.0 v) (λ q. clash (subst (λ z. b z ≡ true) (eqb-true w.0 v q) a.0) h)))
 
 write_swap : (a b : Set) (us ws : Written) (e : Store) → ((v : ℕ) → a v ≡ true → b v ≡ false) → AllIn a us → AllIn b ws → write us (write ws e) ≡ write ws (write us e)
 write_swap a b [] ws e d h k = refl
@@ -86,7 +84,7 @@ goes_on {j = j} before_end st w st2 = λ h.
 by_then : {r r1 r2 : Rest} {ps : Procs} {e e1 e2 : Store} {i j : ℕ} {d f : SiteAction} {m n : List Comm} → ((r3 : Rest) → Step r1 e1 j f n r3 e2 → Swapped r e i d m j f n r3 e2) → Step (Then r1 ps) e1 j f n r2 e2 → Swapped (Then r ps) e i d m j f n r2 e2
 by_then {e2 = e2} h (in_then {r' = r3} {ps = ps} st) =
     let s = h r3 st in
-    record { rest = then_on s.rest ps; store = s.store; first = in_then s.first; after = then_step ps {s = record { rest = s.rest; store = s.store }} {t = record { rest = r3; store = e2 }} s.after }
+    record { rest = then_on s.rest ps; store = s.store; first = in_then s.first; after = then_steps s.after ps }
 
 by_turns : {r r1 r2 : Rest} {v : ℕ} {b : ℤ} {k : ℕ} {p : Proc} {e e1 e2 : Store} {i j : ℕ} {d f : SiteAction} {m n : List Comm} → ((r3 : Rest) (e3 : Store) → Step r1 e1 j f n r3 e3 → Swapped r e i d m j f n r3 e3) → Step (Turns r1 v b k p) e1 j f n r2 e2 → Swapped (Turns r v b k p) e i d m j f n r2 e2
 by_turns h (in_turns {r' = r3} {e' = e3} {v = v} {b = b} {n = k} {p = p} st) =
@@ -95,30 +93,24 @@ by_turns h (in_turns {r' = r3} {e' = e3} {v = v} {b = b} {n = k} {p = p} st) =
       rest = turns_on s.rest v b k p;
       store = index_on s.rest v b k s.store;
       first = in_turns s.first;
-      after = turns_step v b k p {s = record { rest = s.rest; store = s.store }} {t = record { rest = r3; store = e3 }} s.after;
+      after = turns_steps s.after v b k p;
     }
 
-left_on : (mine : Set) (q : Rest) {r r' : Rest} {e e' : Store} {i : ℕ} {d : SiteAction} {m : List Comm} → Step r e i d m r' e' → Step (beside_on mine r q) e i d m (beside_on mine r' q) e'
-left_on mine q {r} {r'} {e} {e'} {i} {d} {m} st = subst (λ z. Step z e i d m (beside_on mine r' q) e') (left_is mine r q (goes st)) (in_left st)
-
-right_on : (mine : Set) (r : Rest) {q q' : Rest} {e e' : Store} {i : ℕ} {d : SiteAction} {m : List Comm} → Step q e i d m q' e' → Step (beside_on mine r q) e i d m (beside_on mine r q') e'
-right_on mine r {q} {q'} {e} {e'} {i} {d} {m} st = subst (λ z. Step z e i d m (beside_on mine r q') e') (right_is mine r q (goes st)) (in_right st)
-
 by_left : {mine : Set} {r r1 q r2 : Rest} {e e1 e2 : Store} {i j : ℕ} {d f : SiteAction} {m n : List Comm} → Step r e i d m r1 e1 → KeepApart r q → ((r3 : Rest) → Step r1 e1 j f n r3 e2 → Swapped r e i d m j f n r3 e2) → Step (Beside mine r1 q) e1 j f n r2 e2 → Swapped (Beside mine r q) e i d m j f n r2 e2
-by_left {mine} {q = q} st a h (in_left {r' = r3} st2) = let s = h r3 st2 in record { rest = beside_on mine s.rest q; store = s.store; first = in_left s.first; after = left_on mine q s.after }
-by_left {mine} {r = r} st a h (in_right {q' = q3} st2) = let s = across st st2 a in record { rest = beside_on mine r q3; store = s.0; first = in_right s.1; after = left_on mine q3 s.2 }
+by_left {mine} {q = q} st a h (in_left {r' = r3} st2) = let s = h r3 st2 in record { rest = beside_on mine s.rest q; store = s.store; first = in_left s.first; after = left_steps s.after mine q }
+by_left {mine} {r = r} st a h (in_right {q' = q3} st2) = let s = across st st2 a in record { rest = beside_on mine r q3; store = s.0; first = in_right s.1; after = left_steps s.2 mine q3 }
 
 by_right : {mine : Set} {r q q1 r2 : Rest} {e e1 e2 : Store} {i j : ℕ} {d f : SiteAction} {m n : List Comm} → Step q e i d m q1 e1 → KeepApart q r → ((q3 : Rest) → Step q1 e1 j f n q3 e2 → Swapped q e i d m j f n q3 e2) → Step (Beside mine r q1) e1 j f n r2 e2 → Swapped (Beside mine r q) e i d m j f n r2 e2
-by_right {mine} {r = r} st a h (in_right {q' = q3} st2) = let s = h q3 st2 in record { rest = beside_on mine r s.rest; store = s.store; first = in_right s.first; after = right_on mine r s.after }
-by_right {mine} {q = q} st a h (in_left {r' = r3} st2) = let s = across st st2 a in record { rest = beside_on mine r3 q; store = s.0; first = in_left s.1; after = right_on mine r3 s.2 }
+by_right {mine} {r = r} st a h (in_right {q' = q3} st2) = let s = h q3 st2 in record { rest = beside_on mine r s.rest; store = s.store; first = in_right s.first; after = right_steps s.after mine r }
+by_right {mine} {q = q} st a h (in_left {r' = r3} st2) = let s = across st st2 a in record { rest = beside_on mine r3 q; store = s.0; first = in_left s.1; after = right_steps s.2 mine r3 }
 
 pub swap : {r r1 r2 : Rest} {e e1 e2 : Store} {i j : ℕ} {d f : SiteAction} {m n : List Comm} → Independent d f → Step r e i d m r1 e1 → Step r1 e1 j f n r2 e2 → KeepsVariablesApart r → Swapped r e i d m j f n r2 e2
 swap {r2 = r2} {e1 = e1} {e2 = e2} {j = j} {f = f} {n = n} o (in_then {r' = r1} {ps = ps} st) st2 k =
-    by_then (λ r3 st3. swap o st st3 k) (subst (λ z. Step z e1 j f n r2 e2) (sym (then_is r1 ps (goes_on o st (then_waits r1 ps) st2))) st2)
+    by_then (λ r3 st3. swap o st st3 k) (subst (λ z. Step z e1 j f n r2 e2) (then_is r1 ps (goes_on o st (then_waits r1 ps) st2)) st2)
 swap {r2 = r2} {e2 = e2} {j = j} {f = f} {n = n} o (in_turns {r' = r1} {e' = e1} {v = v} {b = b} {n = l} {p = p} st) st2 k =
     let g = goes_on o st (turns_waits r1 v b l p) st2 in
     by_turns (λ r3 e3 st3. swap o st st3 k)
-    (subst (λ y. Step (Turns r1 v b l p) y j f n r2 e2) (sym (index_is r1 v b l e1 g)) (subst (λ z. Step z (index_on r1 v b l e1) j f n r2 e2) (sym (turns_is r1 v b l p g)) st2))
+    (subst (λ y. Step (Turns r1 v b l p) y j f n r2 e2) (index_is r1 v b l e1 g) (subst (λ z. Step z (index_on r1 v b l e1) j f n r2 e2) (turns_is r1 v b l p g) st2))
 swap {r2 = r2} {e1 = e1} {e2 = e2} {j = j} {f = f} {n = n} o (in_left {r = r} {r' = r1} {q = q} {mine = mine} st) st2 k =
     by_left st (left_apart mine r q k.0) (λ r3 st3. swap o st st3 k.1) (subst (λ z. Step z e1 j f n r2 e2) (sym (beside_is mine r1 q (goes st2))) st2)
 swap {r2 = r2} {e1 = e1} {e2 = e2} {j = j} {f = f} {n = n} o (in_right {r = r} {q = q} {q' = q1} {mine = mine} st) st2 k =

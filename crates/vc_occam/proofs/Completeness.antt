@@ -3,7 +3,7 @@ use Rattle.std.proofs.Common.{◌≡◌, ℕ, zero, suc, ℤ, pos, ◌+ℤ◌, t
 use Rattle.vc_process.specs.declared.datum.Datum.{Datum}
 use Rattle.vc_process.specs.Lawful.{Lawfully, LawfullyAll, LawfullyBranches, LawfullyGuards, SideBySide}
 use Rattle.vc_process.specs.Messages.{message}
-use Rattle.vc_process.specs.Syntax.{Test, Proc, SKIP, STOP, Assign, Output, Input, StopChan, SEQ, PAR, IF, WHILE, COUNT, ALT, Procs, no_parts, part, Branches, Guards, guard}
+use Rattle.vc_process.specs.Syntax.{Test, Proc, SEQ, PAR, WHILE, ALT, Procs, no_parts, part, Branches, Guards, guard}
 use Rattle.vc_process.specs.Values.{Store, holds}
 use Rattle.vc_process.specs.Usage.{changes}
 use Rattle.vc_occam.specs.Completeness.{Steps, no_more, one_more, at_first, EndsAs, TracesAreMadeBySteps}
@@ -13,7 +13,8 @@ use Rattle.vc_occam.specs.Traces.{Comm, In, End, Open, Ended, set, join, both_en
 use Rattle.vc_occam.proofs.Preservation.{begins}
 use Rattle.vc_occam.proofs.Receipt.{received_sent}
 use Rattle.vc_occam.proofs.Rests.{join_same}
-use Rattle.vc_occam.proofs.Interleavings.{offers, finishes, takes, chooses, stops, Run, still, quiet, tells, then_is, turns_is, index_is, left_is, thens, then_run, turning, turns_run, append, both, weave}
+use Rattle.vc_occam.proofs.Lifting.{then_is, turns_is, index_is, left_is}
+use Rattle.vc_occam.proofs.Interleavings.{offers, finishes, takes, chooses, stops, Run, still, quiet, tells, thens, then_run, turning, turns_run, append, both, weave}
 
 -- a process at first has not ended
 and_then_goes : (r : Rest) (ps : Procs) → (r ≡ Done → ⊥) → and_then r ps ≡ Done → ⊥
@@ -21,20 +22,9 @@ and_then_goes r no_parts h e = h e
 and_then_goes r (part p ps) h e = absurd cc
 
 pub begin_goes : (p : Proc) → begin p ≡ Done → ⊥
-begin_goes (SKIP i) h = absurd cc
-begin_goes (STOP i) h = absurd cc
-begin_goes (Assign i v a) h = absurd cc
-begin_goes (Output i c a) h = absurd cc
-begin_goes (Input i c v) h = absurd cc
-begin_goes (StopChan i c) h = absurd cc
-begin_goes (SEQ i no_parts) h = absurd cc
 begin_goes (SEQ i (part p ps)) h = and_then_goes (begin p) ps (begin_goes p) h
 begin_goes (PAR i no_parts) h = absurd cc
-begin_goes (PAR i (part p ps)) h = absurd cc
-begin_goes (IF i bs) h = absurd cc
-begin_goes (WHILE i b p) h = absurd cc
-begin_goes (COUNT i v a n p) h = absurd cc
-begin_goes (ALT i gs) h = absurd cc
+begin_goes p h = absurd cc
 
 -- steps that make a list of communications, to an end
 pub record Makes (s : State) (t : List Comm) (x : End) : Type 0 where
@@ -53,7 +43,7 @@ then_begins : (p : Proc) (ps : Procs) {e : Store} {t : List Comm} → Makes (at_
 then_begins p no_parts m = m
 then_begins p (part q ps) {e} {t} m = record {
   last = thens (part q ps) m.last;
-  run = subst (λ r. Run (from r e) t (thens (part q ps) m.last)) (sym (then_is (begin p) (part q ps) (begin_goes p))) (then_run (part q ps) m.run);
+  run = subst (λ r. Run (from r e) t (thens (part q ps) m.last)) (then_is (begin p) (part q ps) (begin_goes p)) (then_run (part q ps) m.run);
   ends = tt;
 }
 
@@ -61,13 +51,13 @@ then_ends : (p : Proc) (ps : Procs) {e f : Store} {t : List Comm} → Makes (at_
 then_ends p no_parts {e} {f} {t} m = subst (Run (at_first p e) t) (ended m.last f m.ends) m.run
 then_ends p (part q ps) {e} {f} {t} m =
     subst (λ s. Run (from (and_then (begin p) (part q ps)) e) t (thens (part q ps) s)) (ended m.last f m.ends)
-    (subst (λ r. Run (from r e) t (thens (part q ps) m.last)) (sym (then_is (begin p) (part q ps) (begin_goes p))) (then_run (part q ps) m.run))
+    (subst (λ r. Run (from r e) t (thens (part q ps) m.last)) (then_is (begin p) (part q ps) (begin_goes p)) (then_run (part q ps) m.run))
 
 -- a turn, and then others
 turn_begins : (v : ℕ) (b : ℤ) (n : ℕ) (p : Proc) {e : Store} {t : List Comm} {s : State} → Run (at_first p e) t s → Run (from (Turns (begin p) v b n p) e) t (turning v b n p s)
 turn_begins v b n p {e} {t} {s} h =
-    subst (λ r. Run (from r e) t (turning v b n p s)) (sym (turns_is (begin p) v b n p (begin_goes p)))
-    (subst (λ f. Run (from (turns_on (begin p) v b n p) f) t (turning v b n p s)) (sym (index_is (begin p) v b n e (begin_goes p))) (turns_run v b n p h))
+    subst (λ r. Run (from r e) t (turning v b n p s)) (turns_is (begin p) v b n p (begin_goes p))
+    (subst (λ f. Run (from (turns_on (begin p) v b n p) f) t (turning v b n p s)) (index_is (begin p) v b n e (begin_goes p)) (turns_run v b n p h))
 
 turn_ends : (v : ℕ) (b : ℤ) (n : ℕ) (p : Proc) {e f : Store} {t : List Comm} → Makes (at_first p e) t (Ended f) → Run (from (Turns (begin p) v b n p) e) t (turning v b n p (from Done f))
 turn_ends v b n p {e} {f} {t} m = subst (λ s. Run (from (Turns (begin p) v b n p) e) t (turning v b n p s)) (ended m.last f m.ends) (turn_begins v b n p m.run)
@@ -126,7 +116,7 @@ mutual
       let two = weave (changes p) m.run o.run n (record { apart = (begins (PAR 0 (part p ps)) (s, l)).0.variables; theirs = λ v a b. refl; ours = λ v a b. refl }) in
       record {
         last = both (changes p) m.last o.last;
-        run = subst (λ r. Run (from r e) u (both (changes p) m.last o.last)) (sym (left_is (changes p) (begin p) (begin_all ps) (begin_goes p)))
+        run = subst (λ r. Run (from r e) u (both (changes p) m.last o.last)) (left_is (changes p) (begin p) (begin_all ps) (begin_goes p))
             (subst (λ f. Run (from (beside_on (changes p) (begin p) (begin_all ps)) f) u (both (changes p) m.last o.last)) (join_same (changes p) e) two);
         ends = both_end (changes p) m.last o.last x y m.ends o.ends;
       }

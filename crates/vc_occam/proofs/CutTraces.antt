@@ -1,19 +1,19 @@
 -- What steps make is a trace, which is cut off where something remains.
 use Rattle.std.proofs.Common.{◌≡◌, ℕ, zero, suc, ℤ, Bool, true, false, refl, sym, subst, List, [], Option, Some, None}
 use Rattle.vc_occam.specs.SiteActions.{SiteAction}
-use Rattle.vc_process.specs.Syntax.{Proc, SKIP, STOP, Assign, Output, Input, StopChan, SEQ, PAR, IF, WHILE, COUNT, ALT, Procs, no_parts, part, Branches, no_branches, branch}
+use Rattle.vc_process.specs.Syntax.{Proc, SEQ, PAR, Procs, no_parts, part, Branches, no_branches, branch}
 use Rattle.vc_process.specs.Values.{Store, holds}
 use Rattle.vc_process.specs.Usage.{Set}
 use Rattle.vc_occam.specs.Completeness.{Steps, no_more, one_more, StepsMakeTraces}
 use Rattle.vc_occam.specs.InUse.{UsesLawfully}
 use Rattle.vc_occam.specs.NodeTraces.{so_far}
-use Rattle.vc_occam.specs.Remains.{Rest, Done, Stopped, Fresh, Finishing, Getting, Then, Turns, Beside, and_then, begin, begin_seq, begin_par, begin_all, then_on, turns_on, beside_on, branch_on, chosen, TraceRest, done, stopped, fresh, finishing_cut, getting_cut, then_open, turns_open, beside, Step, does_skip, does_empty_seq, does_empty_par, does_assign, faults_assign, faults_out, does_if, does_turn, does_leave, faults_while, does_count, does_count_none, faults_count, does_offer, does_finish, does_input, waits_input, gets, does_stop, does_choose, waits_choose, in_then, in_turns, in_left, in_right}
+use Rattle.vc_occam.specs.Remains.{Rest, Done, Stopped, Fresh, Finishing, Getting, Then, Turns, Beside, and_then, begin, begin_seq, begin_par, begin_all, then_on, turns_on, beside_on, branch_on, chosen, TraceRest, done, stopped, fresh, finishing_cut, getting_cut, then_open, turns_open, beside, Step, faults_assign, faults_out, does_if, does_turn, faults_while, does_count, faults_count, does_offer, waits_input, does_choose, waits_choose, in_then, in_turns, in_left, in_right}
 use Rattle.vc_occam.specs.States.{State}
 use Rattle.vc_occam.specs.Traces.{Comm, Open, neither, cut}
 use Rattle.vc_occam.proofs.Preservation.{begins, lawful, step_uses}
 use Rattle.vc_occam.proofs.Law.{law}
 use Rattle.vc_occam.proofs.Rests.{begin_is}
-use Rattle.vc_occam.proofs.Interleavings.{then_is, turns_is, left_is, right_is}
+use Rattle.vc_occam.proofs.Lifting.{then_is, turns_is, left_is, right_is}
 
 mutual
   -- something remains, and each part of a PAR has ended or has something left
@@ -33,13 +33,7 @@ mutual
 
 goes : {r : Rest} → Remains r → r ≡ Done → ⊥
 goes it_stopped h = cc
-goes it_is_fresh h = cc
-goes it_finishes h = cc
-goes it_gets h = cc
-goes (before k) h = cc
-goes (in_turn k) h = cc
-goes (on_left k l) h = cc
-goes (on_right k l) h = cc
+goes x h = cc
 
 mutual
   cut_off : {r : Rest} {e : Store} → Remains r → TraceRest r e [] Open
@@ -68,18 +62,9 @@ and_then_remains r (part p ps) k = before k
 
 mutual
   begin_remains : (p : Proc) → Remains (begin p)
-  begin_remains (SKIP i) = it_is_fresh
-  begin_remains (STOP i) = it_is_fresh
-  begin_remains (Assign i v a) = it_is_fresh
-  begin_remains (Output i c a) = it_is_fresh
-  begin_remains (Input i c v) = it_is_fresh
-  begin_remains (StopChan i c) = it_is_fresh
   begin_remains (SEQ i ps) = seq_remains i ps
   begin_remains (PAR i ps) = par_remains i ps
-  begin_remains (IF i bs) = it_is_fresh
-  begin_remains (WHILE i b p) = it_is_fresh
-  begin_remains (COUNT i v a n p) = it_is_fresh
-  begin_remains (ALT i gs) = it_is_fresh
+  begin_remains p = it_is_fresh
 
   seq_remains : (i : ℕ) (ps : Procs) → Remains (begin_seq i ps)
   seq_remains i no_parts = it_is_fresh
@@ -105,17 +90,17 @@ chosen_remains s (branch b p bs) e = branch_remains s (holds b e) (begin p) (cho
 then_stands : (r : Rest) (ps : Procs) → Stands r → Stands (then_on r ps)
 then_stands Done no_parts has_ended = has_ended
 then_stands Done (part p ps) has_ended = remains (and_then_remains (begin p) ps (begin_remains p))
-then_stands r ps (remains k) = remains (subst Remains (then_is r ps (goes k)) (before k))
+then_stands r ps (remains k) = remains (subst Remains (sym (then_is r ps (goes k))) (before k))
 
 turns_stands : (r : Rest) (v : ℕ) (b : ℤ) (n : ℕ) (p : Proc) → Stands r → Stands (turns_on r v b n p)
 turns_stands Done v b zero p has_ended = has_ended
 turns_stands Done v b (suc n) p has_ended = remains (in_turn (begin_remains p))
-turns_stands r v b n p (remains k) = remains (subst Remains (turns_is r v b n p (goes k)) (in_turn k))
+turns_stands r v b n p (remains k) = remains (subst Remains (sym (turns_is r v b n p (goes k))) (in_turn k))
 
 beside_stands : (mine : Set) (r q : Rest) → Stands r → Stands q → Stands (beside_on mine r q)
 beside_stands mine Done Done has_ended has_ended = has_ended
-beside_stands mine Done q has_ended (remains l) = remains (subst Remains (right_is mine Done q (goes l)) (on_right has_ended l))
-beside_stands mine r q (remains k) l = remains (subst Remains (left_is mine r q (goes k)) (on_left k l))
+beside_stands mine Done q has_ended (remains l) = remains (subst Remains (sym (right_is mine Done q (goes l))) (on_right has_ended l))
+beside_stands mine r q (remains k) l = remains (subst Remains (sym (left_is mine r q (goes k))) (on_left k l))
 
 -- what stands in a SEQ, in a turn, in a PAR
 within_then : {r : Rest} {ps : Procs} → Stands (Then r ps) → Stands r
@@ -133,31 +118,22 @@ second_stands (remains (on_left k l)) = l
 second_stands (remains (on_right k l)) = remains l
 
 step_stands : {r r' : Rest} {e e' : Store} {i : ℕ} {d : SiteAction} {m : List Comm} → Step r e i d m r' e' → Stands r → Stands r'
-step_stands does_skip s = has_ended
-step_stands does_empty_seq s = has_ended
-step_stands does_empty_par s = has_ended
-step_stands (does_assign h) s = has_ended
 step_stands (faults_assign h) s = remains it_stopped
 step_stands (faults_out h) s = remains it_stopped
 step_stands (does_if {s = i} {bs = bs} {e = e}) s = remains (chosen_remains i bs e)
 step_stands (does_turn {p = p} h) s = remains (before (begin_remains p))
-step_stands (does_leave h) s = has_ended
 step_stands (faults_while h) s = remains it_stopped
 step_stands (does_count {p = p} h) s = remains (in_turn (begin_remains p))
-step_stands (does_count_none h) s = has_ended
 step_stands (faults_count h) s = remains it_stopped
 step_stands (does_offer h) s = remains it_finishes
-step_stands does_finish s = has_ended
-step_stands (does_input h) s = has_ended
 step_stands waits_input s = remains it_gets
-step_stands (gets h) s = has_ended
-step_stands does_stop s = has_ended
 step_stands (does_choose {p = p} dec g h k) s = remains (begin_remains p)
 step_stands (waits_choose dec g h) s = remains (before it_gets)
 step_stands (in_then {r' = r'} {ps = ps} st) s = then_stands r' ps (step_stands st (within_then s))
 step_stands (in_turns {r' = r'} {v = v} {b = b} {n = n} {p = p} st) s = turns_stands r' v b n p (step_stands st (within_turns s))
 step_stands (in_left {r' = r'} {q = q} {mine = mine} st) s = beside_stands mine r' q (step_stands st (first_stands s)) (second_stands s)
 step_stands (in_right {r = r} {q' = q'} {mine = mine} st) s = beside_stands mine r q' (first_stands s) (step_stands st (second_stands s))
+step_stands st s = has_ended
 
 steps_traced : {s t : State} {ks : List Comm} → Steps s ks t → UsesLawfully s.rest → Stands s.rest → TraceRest s.rest s.store ks (so_far t.rest t.store)
 steps_traced {s} no_more l h = so_it_stands s.rest s.store h

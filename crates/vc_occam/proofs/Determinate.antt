@@ -8,13 +8,14 @@ use Rattle.vc_occam.specs.InUse.{UsesLawfully, outputs_rest, inputs_rest}
 use Rattle.vc_process.specs.Lawful.{outputs_all, inputs_all, outputs, inputs}
 use Rattle.vc_process.specs.Messages.{message, received}
 use Rattle.vc_occam.specs.Remains.{Rest, Done, Finishing, Getting, Then, Turns, begin, then_on, turns_on, index_on, beside_on, GuardAt, first, later, Step, does_skip, does_empty_seq, does_empty_par, does_assign, faults_assign, faults_out, does_if, does_turn, does_leave, faults_while, does_count, does_count_none, faults_count, does_offer, does_finish, does_input, waits_input, gets, does_stop, does_choose, waits_choose, in_then, in_turns, in_left, in_right}
-use Rattle.vc_occam.specs.Sites.{sites, sites_all, sites_guards, sites_branches, sites_rest, OwnSites}
+use Rattle.vc_occam.specs.Sites.{sites_rest, OwnSites}
 use Rattle.vc_occam.specs.States.{State, StepsTo, Does, meeting}
 use Rattle.vc_process.specs.ProcessStep.{ProcessStep, Offers, Wants, Chooses, Stops, Meets, Rests, Finishes, Receives}
 use Rattle.vc_process.specs.Syntax.{Test, Proc, Guards, no_parts, part}
 use Rattle.vc_occam.specs.Traces.{Comm, Out, Fin, In, set, Counts}
 use Rattle.vc_process.specs.Usage.{just}
 use Rattle.vc_process.specs.Values.{Store}
+use Rattle.vc_occam.proofs.Doers.{doers_rest, step_site}
 use Rattle.vc_occam.proofs.Sites.{clash, step_keeps}
 use Rattle.vc_occam.proofs.Stores.{or_left, or_right}
 
@@ -37,32 +38,8 @@ site_there : (i : ℕ) → just i i ≡ true
 site_there i = eq-eqb i i refl
 
 -- a step is made at a site of what remains
-step_site : {r r' : Rest} {e e' : Store} {i : ℕ} {d : SiteAction} {ks : List Comm} → Step r e i d ks r' e' → sites_rest r i ≡ true
-step_site {i = i} does_skip = site_there i
-step_site {i = i} does_empty_seq = or_left (just i i) false (site_there i)
-step_site {i = i} does_empty_par = or_left (just i i) false (site_there i)
-step_site {i = i} (does_assign h) = site_there i
-step_site {i = i} (faults_assign h) = site_there i
-step_site {i = i} (faults_out h) = site_there i
-step_site {i = i} (does_if {bs = bs}) = or_left (just i i) (sites_branches bs i) (site_there i)
-step_site {i = i} (does_turn {p = p} h) = or_left (just i i) (sites p i) (site_there i)
-step_site {i = i} (does_leave {p = p} h) = or_left (just i i) (sites p i) (site_there i)
-step_site {i = i} (faults_while {p = p} h) = or_left (just i i) (sites p i) (site_there i)
-step_site {i = i} (does_count {p = p} h) = or_left (just i i) (sites p i) (site_there i)
-step_site {i = i} (does_count_none {p = p} h) = or_left (just i i) (sites p i) (site_there i)
-step_site {i = i} (faults_count {p = p} h) = or_left (just i i) (sites p i) (site_there i)
-step_site {i = i} (does_offer h) = site_there i
-step_site {i = i} does_finish = site_there i
-step_site {i = i} (does_input h) = site_there i
-step_site {i = i} waits_input = site_there i
-step_site {i = i} (gets h) = site_there i
-step_site {i = i} does_stop = site_there i
-step_site {i = i} (does_choose {gs = gs} dec g h k) = or_left (just i i) (sites_guards gs i) (site_there i)
-step_site {i = i} (waits_choose {gs = gs} dec g h) = or_left (just i i) (sites_guards gs i) (site_there i)
-step_site {i = i} (in_then {r = r} {ps = ps} st) = or_left (sites_rest r i) (sites_all ps i) (step_site st)
-step_site {i = i} (in_turns {r = r} {p = p} st) = or_left (sites_rest r i) (sites p i) (step_site st)
-step_site {i = i} (in_left {r = r} {q = q} st) = or_left (sites_rest r i) (sites_rest q i) (step_site st)
-step_site {i = i} (in_right {r = r} {q = q} st) = or_right (sites_rest r i) (sites_rest q i) (step_site st)
+step_there : {r r' : Rest} {e e' : Store} {i : ℕ} {d : SiteAction} {ks : List Comm} → Step r e i d ks r' e' → sites_rest r i ≡ true
+step_there {r} {i = i} st = doers_rest r i (step_site st)
 
 -- where parts side by side have sites of their own, what a site does leads to one state
 pub step_one : {r r' r'' : Rest} {e e' e'' : Store} {i j : ℕ} {d f : SiteAction} {ks ls : List Comm} → Step r e i d ks r' e' → Step r e j f ls r'' e'' → i ≡ j → d ≡ f → OwnSites r → ◌≡◌ {A = Outcome} (ks, r', e') (ls, r'', e'')
@@ -130,8 +107,8 @@ step_one (in_then {ps = ps} st) (in_then st') at it o = ap {B = Outcome} (λ t. 
 step_one (in_turns {v = v} {b = b} {n = n} {p = p} st) (in_turns st') at it o = ap {B = Outcome} (λ t. (t.0, turns_on t.1 v b n p, index_on t.1 v b n t.2)) (step_one st st' at it o.0)
 step_one (in_left {q = q} {mine = mine} st) (in_left st') at it o = ap {B = Outcome} (λ t. (t.0, beside_on mine t.1 q, t.2)) (step_one st st' at it o.1)
 step_one (in_right {r = r} {mine = mine} st) (in_right st') at it o = ap {B = Outcome} (λ t. (t.0, beside_on mine r t.1, t.2)) (step_one st st' at it o.2)
-step_one {i = i} {j = j} (in_left {q = q} st) (in_right st') at it o = absurd (clash (step_site st') (subst (λ z. sites_rest q z ≡ false) at (o.0 i (step_site st))))
-step_one {i = i} {j = j} (in_right {q = q} st) (in_left st') at it o = absurd (clash (step_site st) (subst (λ z. sites_rest q z ≡ false) (sym at) (o.0 j (step_site st'))))
+step_one {i = i} {j = j} (in_left {q = q} st) (in_right st') at it o = absurd (clash (step_there st') (subst (λ z. sites_rest q z ≡ false) at (o.0 i (step_there st))))
+step_one {i = i} {j = j} (in_right {q = q} st) (in_left st') at it o = absurd (clash (step_there st) (subst (λ z. sites_rest q z ≡ false) (sym at) (o.0 j (step_there st'))))
 
 -- an output that is finished is one of what remains, and so is an input whose message comes
 finishing_on : {r r' : Rest} {e e' : Store} {i c : ℕ} → Step r e i Finish (Fin c ∷ []) r' e' → outputs_rest r c ≡ true

@@ -23,7 +23,7 @@ use Rattle.vc_occam.proofs.Determinate.{finishing_one}
 use Rattle.vc_occam.proofs.Insertion.{is_inserted}
 use Rattle.vc_occam.proofs.Preservation.{begins, lawful, step_uses}
 use Rattle.vc_occam.proofs.SiteMoves.{quiet_own, stop_own, want_own, choose_own, offer_on, stop_on}
-use Rattle.vc_occam.proofs.Made.{finishes as ends_there}
+use Rattle.vc_occam.proofs.GoingOn.{finishes as ends_there}
 use Rattle.vc_occam.proofs.Meets.{lists_meeting, lists_other}
 use Rattle.vc_occam.proofs.Offers.{offer_own}
 use Rattle.vc_occam.proofs.UseBounds.{step_in, begin_in}
@@ -72,11 +72,8 @@ record Shape (c : ℕ) (x : Datum) (d : ℕ) (y : Datum) (ks : List Comm) : Type
   then : AreExchanges others
 
 shape : (c : ℕ) (x : Datum) (d : ℕ) (y : Datum) (ks : List Comm) → AreExchanges (Out c x ∷ In d y ∷ ks) → Shape c x d y ks
-shape c x d y [] h = absurd h
 shape c x d y (Fin f ∷ t) h = record { end = f; others = t; is = refl; chan = h.0; carries = h.1; ends = h.2; then = h.3 }
-shape c x d y (Out f z ∷ t) h = absurd h
-shape c x d y (In f z ∷ t) h = absurd h
-shape c x d y (Stp f ∷ t) h = absurd h
+shape c x d y z h = absurd h
 
 -- what remains uses only channels inside the node
 record Within_node (inside : Set) (r : Rest) : Type 0 where
@@ -127,19 +124,16 @@ module _ (inside : Set) (u : State) where
 
   -- after an output began
   after : (n k : ℕ) (s t : State) (i c : ℕ) (x : Datum) (ks : List Comm) → Fewer n → k ≤ n → StepsTo s i (action.Offer c) (Out c x ∷ []) t → Long k t ks u → AreExchanges (Out c x ∷ ks) → UsesLawfully s.rest → Within_node inside s.rest → Moves inside s (Out c x ∷ ks) u
-  after n k s t i c x ks f h st none z l w = absurd z
   after n k s t i c x ks f h st (rests {n = m} st2 r) z l w =
       let q = swap (after_output (λ a. cc)) st st2 (lawful s.rest l) in
       rest_first n k s (state q.rest q.store) _ (Out c x ∷ ks) f h q.first (makes offers q.after r) z l w
-  after n k s t i c x ks f h st (makes offers st2 r) z l w = absurd z
-  after n k s t i c x ks f h st (makes finishes st2 r) z l w = absurd z
-  after n k s t i c x ks f h st (makes stops st2 r) z l w = absurd z
   after n k s t i c x ks f h st (makes {n = m} {t = v} {i = j} (takes {c = d} {m = b} {x = y} e) st2 r) z l w =
       let q = swap (after_output (λ a. cc)) st st2 (lawful s.rest l) in
       by_input n m s t v i j None c x d y b _ f h st st2 (want_own q.first) e (step_waits st2) r z l w
   after n k s t i c x ks f h st (makes {n = m} {t = v} {i = j} (chooses {k = g} {c = d} {m = b} {x = y} e) st2 r) z l w =
       let q = swap (after_output (λ a. cc)) st st2 (lawful s.rest l) in
       by_input n m s t v i j (Some g) c x d y b _ f h st st2 (choose_own q.first) e (step_waits st2) r z l w
+  after n k s t i c x ks f h st y z l w = absurd z
 
   by_moves : (n : ℕ) → Fewer n
   by_moves n k s ks h none z l w = no_more
@@ -150,9 +144,7 @@ module _ (inside : Set) (u : State) where
       let within = w.inputs c (stop_on st) in
       one_more (Stops i c) (Stp c ∷ []) (within, lists_other inside s.rest s.store (move.Stopch i c) refl (stop_own st)) (refl, st) (by_moves n m t _ (omega arith) r z (step_uses st l) (kept {s = s} {t = t} st w))
   by_moves (suc n) k s ks h (makes {n = m} {t = t} {i = i} (offers {c = c} {x = x}) st r) z l w = after n m s t i c x _ (by_moves n) (omega arith) st r z l w
-  by_moves (suc n) k s ks h (makes finishes st r) z l w = absurd z
-  by_moves (suc n) k s ks h (makes (takes e) st r) z l w = absurd z
-  by_moves (suc n) k s ks h (makes (chooses e) st r) z l w = absurd z
+  by_moves (suc n) k s ks h x z l w = absurd z
 
 pub exchanges_are_meetings : ExchangesAreMeetings
 exchanges_are_meetings inside p e ks x l only z h =

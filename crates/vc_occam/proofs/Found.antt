@@ -13,7 +13,7 @@ use Rattle.vc_occam.specs.Private.Frames.{HasNothingAt, IsPart, StandsAt, assign
 use Rattle.vc_occam.specs.Private.Sites.{PartsInPreorder}
 use Rattle.vc_occam.specs.Remains.{Rest}
 use Rattle.vc_occam.specs.States.{Waiting, output_at, waiting}
-use Rattle.vc_occam.proofs.Doers.{besides_own, besides_wait, found_assigned, found_output, found_own, part_at}
+use Rattle.vc_occam.proofs.PartOfSite.{besides_own, besides_wait, found_assigned, found_output, found_own, part_at}
 use Rattle.vc_occam.proofs.Innermost.{same_assigned, same_output, same_own, same_waiting}
 use Rattle.vc_occam.proofs.Inside.{tasks_inside}
 use Rattle.vc_occam.proofs.Pars.{task_at}

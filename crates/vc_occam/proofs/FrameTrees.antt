@@ -158,17 +158,7 @@ alt_stands site i gs ns l h =
 -- each process has a site
 some_site : (l : layer.Process-F Numbered NumberedBranch NumberedGuard) → 1 ≤ (numbered l).sites
 some_site layer.Skip = omega arith
-some_site layer.Stop = omega arith
-some_site (layer.Set v a) = omega arith
-some_site (layer.Send c a) = omega arith
-some_site (layer.Receive c v) = omega arith
-some_site (layer.Stopch c) = omega arith
-some_site (layer.Seq ps) = omega arith
-some_site (layer.Par ps) = omega arith
-some_site (layer.If bs) = omega arith
-some_site (layer.While b p) = omega arith
-some_site (layer.Count v a n p) = omega arith
-some_site (layer.Alt gs) = omega arith
+some_site x = omega arith
 
 pub has_site : (p : Process) → 1 ≤ (number p).sites
 unfolding number

@@ -4,7 +4,7 @@ use Rattle.vc_process.specs.declared.datum.Datum.{Datum}
 use Rattle.vc_process.specs.declared.datum.Datum.TheVariants as datum
 use Rattle.vc_process.specs.Syntax.{Proc, WHILE, Procs, part, Branches, Guards}
 use Rattle.vc_process.specs.Values.{Store}
-use Rattle.vc_occam.specs.Traces.{Comm, Out, Fin, In, End, Open, Ended, set, Merge, from_left, from_right, Trace, cut, skip, assign, begin_out, out, input, stop_chan, seq, par, choose, leave, last_turn, turn, count, select, TraceSeq, seq_end, seq_open, seq_next, TracePar, par_end, par_more, TraceIf, here, further, TraceCount, counted, count_open, count_turn, TraceAlt, this, that}
+use Rattle.vc_occam.specs.Traces.{Comm, Out, Fin, In, End, Open, Ended, set, Merge, from_left, from_right, Trace, begin_out, out, input, stop_chan, seq, par, choose, last_turn, turn, count, select, TraceSeq, seq_end, seq_open, seq_next, TracePar, par_end, par_more, TraceIf, here, further, TraceCount, counted, count_open, count_turn, TraceAlt, this, that}
 use Rattle.vc_occam.proofs.Counts.{out_of, fin_of, outs_append, fins_append}
 use Rattle.vc_occam.proofs.Balance.{Balances, balanced_within, balanced, balanced_seq, balanced_count}
 use Rattle.vc_occam.proofs.Prefixes.{StrictPrefix, strict_none, strict_more, prefixed, prefixed_seq, prefixed_count}
@@ -117,9 +117,6 @@ input_stays {p} {e} {v = v} {y = y} (an_end {c = c} g) q = no_end_first (made p 
 
 mutual
   pub swapped : {p : Proc} {e : Store} {l m : List Comm} {x : End} → Trace p e l x → Swap l m → Trace p e m x
-  swapped cut s = elim s [ ]
-  swapped skip s = elim s [ ]
-  swapped (assign q) s = elim s [ ]
   swapped (begin_out q) s = absurd (one_alone s)
   swapped (out q) (swap_here h) = absurd (tight h)
   swapped (out q) (swap_later s) = absurd (one_alone s)
@@ -128,7 +125,6 @@ mutual
   swapped (seq q) s = seq (swapped_seq q s)
   swapped (par q) s = par (swapped_par q s)
   swapped (choose q) s = choose (swapped_if q s)
-  swapped (leave q) s = elim s [ ]
   swapped (last_turn h q) s = last_turn h (swapped q s)
   swapped (turn {i = i} {b = b} {p = p} {e = e} {f = f} {t = t} {u = u} {x = x} h q r) s = elim (split t s) [
     | in_first g d ↦ subst (λ l. Trace (WHILE i b p) e l x) (sym d) (turn h (swapped q g) r)
@@ -137,6 +133,7 @@ mutual
   ]
   swapped (count h q) s = count h (swapped_count q s)
   swapped (select h q) s = select h (swapped_alt q s)
+  swapped t s = elim s [ ]
 
   pub swapped_seq : {ps : Procs} {e : Store} {l m : List Comm} {x : End} → TraceSeq ps e l x → Swap l m → TraceSeq ps e m x
   swapped_seq seq_end s = elim s [ ]

@@ -5,19 +5,14 @@ use Rattle.vc_process.specs.Values.{Store}
 use Rattle.vc_occam.specs.BlockedParts.{blocked}
 use Rattle.vc_occam.specs.First.{own}
 use Rattle.vc_occam.specs.Private.Frames.{assigned_at, innermost}
-use Rattle.vc_occam.specs.Remains.{Rest, Done, Stopped, Fresh, Finishing, Getting, Then, Turns, Beside}
+use Rattle.vc_occam.specs.Remains.{Rest, Then, Turns}
 use Rattle.vc_occam.specs.States.{output_at, waiting}
 
 module _ {A : Type 0} (F : Rest → A) (then_same : (r : Rest) (ps : Procs) → F (Then r ps) ≡ F r) (turns_same : (r : Rest) (v : ℕ) (b : ℤ) (n : ℕ) (p : Proc) → F (Turns r v b n p) ≡ F r) where
   within : (r : Rest) → F r ≡ F (innermost r)
-  within Done = refl
-  within (Stopped i) = refl
-  within (Fresh p) = refl
-  within (Finishing i c) = refl
-  within (Getting i c v) = refl
   within (Then r ps) = then_same r ps ∙ within r
   within (Turns r v b n p) = turns_same r v b n p ∙ within r
-  within (Beside mine r q) = refl
+  within r = refl
 
   alike : (r q : Rest) → innermost r ≡ innermost q → F r ≡ F q
   alike r q h = within r ∙ ap F h ∙ sym (within q)

@@ -2,7 +2,7 @@
 use Rattle.std.proofs.Common.{ℕ, zero, suc, Bool, true, false, sym, subst, List, [], ◌∷◌, map, drop, Option, Some, None}
 use Rattle.std.specs.Prelude.{slice_get}
 use Rattle.vc_occam.specs.declared.frame.Branch.{Branch}
-use Rattle.vc_occam.specs.declared.frame.Choice.TheVariants.{Open, Taken, Within as In}
+use Rattle.vc_occam.specs.declared.frame.Choice.TheVariants.{Taken, Within as In}
 use Rattle.vc_occam.specs.declared.frame.Construct.{Construct}
 use Rattle.vc_occam.specs.declared.frame.Construct.TheVariants as run
 use Rattle.vc_occam.specs.declared.frame.Frame.{Frame}
@@ -14,11 +14,12 @@ use Rattle.vc_occam.specs.declared.outcome.Outcome.{Outcome}
 use Rattle.vc_occam.specs.declared.outcome.Outcome.TheVariants as outcome
 use Rattle.vc_process.specs.Syntax.{Proc, STOP, Procs, no_parts, part}
 use Rattle.vc_process.specs.Usage.{Set, just, nothing, ◌∪◌}
-use Rattle.vc_occam.specs.Frames.{View, Shape, skip, empty_seq, empty_par, stop, assign, send, receive, stop_chan, seq, par, branching, looping, counting, guarding, bodies, branches_of, follow, guarded, guards_of, left_by, plan_of, plans_of, rest_of, taken_rest, task_view, view, view_of}
+use Rattle.vc_occam.specs.Frames.{View, Shape, send, receive, stop, seq, par, branching, looping, counting, guarding, bodies, branches_of, follow, guarded, guards_of, left_by, plan_of, plans_of, rest_of, taken_rest, task_view, view, view_of}
 use Rattle.vc_occam.specs.Private.Frames.{seen_branch, seen_guard, shape, task_views, views, whole}
 use Rattle.vc_occam.specs.Remains.{Rest, Fresh, and_then}
 use Rattle.vc_occam.specs.Sites.{sites, sites_all, sites_branches, sites_guards}
-use Rattle.vc_occam.proofs.Doers.{AllWithin, besides_sites, doers}
+use Rattle.vc_occam.proofs.Doers.{doers}
+use Rattle.vc_occam.proofs.PartOfSite.{AllWithin, besides_sites}
 use Rattle.vc_occam.proofs.Sites.{Within, within_left, within_none, within_right}
 use Rattle.vc_occam.proofs.Views.{view_roll}
 
@@ -66,27 +67,17 @@ PartsWithin (guarding gs c) = AllWithin (guarded gs)
 PartsWithin s = Unit {0}
 
 rest_inside : (i : ℕ) (s : Shape) → PartsWithin s → Within (doers (rest_of i s)) (sites (plan_of i s))
-rest_inside i skip w = fresh_inside (plan_of i skip)
-rest_inside i empty_seq w = fresh_inside (plan_of i empty_seq)
-rest_inside i empty_par w = fresh_inside (plan_of i empty_par)
 rest_inside i stop w = fresh_inside (plan_of i stop)
-rest_inside i (assign v a) w = fresh_inside (plan_of i (assign v a))
 rest_inside i (send c a true) w = λ k e. e
-rest_inside i (send c a false) w = λ k e. e
 rest_inside i (receive c v true) w = λ k e. e
-rest_inside i (receive c v false) w = λ k e. e
-rest_inside i (stop_chan c) w = λ k e. e
 rest_inside i (seq vs k) w = later (doers (rest_of i (seq vs k))) (just i) (sites_all (plans_of vs)) (seq_inside vs k (plans_of (drop (suc k) vs)) w)
 rest_inside i (par ts) w = later (doers (rest_of i (par ts))) (just i) (sites_all (plans_of (map task_view ts))) (besides_sites (map task_view ts) w)
-rest_inside i (branching bs None) w = λ k e. e
 rest_inside i (branching bs (Some k)) w = later (doers (rest_of i (branching bs (Some k)))) (just i) (sites_branches (branches_of bs)) (branch_inside bs k w)
 rest_inside i (looping b v true) w = later (doers v.rest) (just i) (sites v.plan) w
-rest_inside i (looping b v false) w = λ k e. e
-rest_inside i (counting x a n v None) w = λ k e. e
 rest_inside i (counting x a n v (Some t)) w = later (doers v.rest) (just i) (sites v.plan) w
-rest_inside i (guarding gs Open) w = λ k e. e
 rest_inside i (guarding gs (Taken k)) w = taken_inside i (slice_get gs k) (sites_guards (guards_of gs))
 rest_inside i (guarding gs (In k)) w = later (doers (rest_of i (guarding gs (In k)))) (just i) (sites_guards (guards_of gs)) (guard_inside gs k w)
+rest_inside i s w = λ k e. e
 
 shape_inside : (i : ℕ) (stopped : Bool) (s : Shape) → PartsWithin s → Within (doers (view_of i stopped s).rest) (sites (view_of i stopped s).plan)
 shape_inside i true s w = within_none (sites (plan_of i s))
@@ -97,9 +88,7 @@ IsInside f = Within (doers (view f).rest) (sites (view f).plan)
 
 left_inside : (o : Outcome) (r : Rest) (a : Set) → Within (doers r) a → Within (doers (left_by o r)) a
 left_inside outcome.Ended r a h = within_none a
-left_inside outcome.Nothing r a h = h
-left_inside (outcome.Quiet i) r a h = h
-left_inside outcome.Other r a h = h
+left_inside o r a h = h
 
 -- a frame with this proof beside it
 abbrev Inside : Type 0
@@ -125,20 +114,13 @@ all_guards [] = tt
 all_guards (g ∷ gs) = (g.body.1, all_guards gs)
 
 parts_inside : (i : ℕ) (stopped : Bool) (c : Construct Inside) → PartsWithin (shape (bare (record { site = i; stopped = stopped; construct = c })).construct)
-parts_inside i st run.Skip = tt
-parts_inside i st run.EmptySeq = tt
-parts_inside i st run.EmptyPar = tt
-parts_inside i st run.Stop = tt
-parts_inside i st (run.Set a) = tt
-parts_inside i st (run.Send o) = tt
-parts_inside i st (run.Receive n) = tt
-parts_inside i st (run.Stopch c) = tt
 parts_inside i st (run.Seq s) = all_inside s.parts.items
 parts_inside i st (run.Par p) = all_tasks p.tasks.items
 parts_inside i st (run.If b) = all_branches b.branches.items
 parts_inside i st (run.While w) = w.body.value.1
 parts_inside i st (run.Count c) = c.body.value.1
 parts_inside i st (run.Alt a) = all_guards a.guards.items
+parts_inside i st c = tt
 
 -- y is x with a proof beside each part
 frame_inside : (f : Frame) → IsInside f

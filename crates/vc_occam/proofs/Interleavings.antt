@@ -1,16 +1,17 @@
 -- Steps one after another: those of a part lift to what it is a part of, and those of two parts side by side are woven together.
-use Rattle.std.proofs.Common.{◌≡◌, ℕ, ℤ, Bool, true, false, not, refl, sym, ap, subst, ◌∙◌, List, [], ◌∷◌, ◌++◌, Some, if◌then◌else◌, eqb, arith}
-use Rattle.std.proofs.lemmas.Bool.Decides.{nat_tests}
+use Rattle.std.proofs.Common.{◌≡◌, ℕ, ℤ, Bool, true, false, not, refl, sym, ap, subst, ◌∙◌, List, [], ◌∷◌, ◌++◌, Some, if◌then◌else◌, eqb}
+use Rattle.std.proofs.lemmas.Bool.{eqb-true}
 use Rattle.vc_process.specs.declared.datum.Datum.{Datum}
 use Rattle.vc_occam.specs.SiteActions.{SiteAction}
 use Rattle.vc_occam.specs.SiteActions as action
 use Rattle.vc_process.specs.Messages.{message}
 use Rattle.vc_occam.specs.States.{State, StepsTo}
 use Rattle.vc_occam.specs.Traces.{Comm, Out, Fin, In, Stp, set, Merge, neither, from_left, from_right, join}
-use Rattle.vc_occam.specs.Remains.{Rest, Done, Stopped, Fresh, Finishing, Getting, Then, Turns, Beside, then_on, turns_on, index_on, beside_on, Step, in_then, in_turns, in_left, in_right, changes_rest, uses_rest, Apart}
+use Rattle.vc_occam.specs.Remains.{Rest, Done, Beside, then_on, turns_on, index_on, beside_on, Step, in_left, in_right, changes_rest, uses_rest, Apart}
 use Rattle.vc_process.specs.Syntax.{Proc, Procs}
 use Rattle.vc_process.specs.Usage.{Set}
 use Rattle.vc_process.specs.Values.{Store}
+use Rattle.vc_occam.proofs.Lifting.{goes, left_is, right_is, then_steps, turns_steps}
 use Rattle.vc_occam.proofs.Agreement.{Alike, Written, write, AllIn, all_wider, like}
 use Rattle.vc_occam.proofs.Preservation.{apart_left, apart_right}
 use Rattle.vc_occam.proofs.UseBounds.{step_in}
@@ -31,37 +32,7 @@ pub data Run : State → List Comm → State → Type 0 where
   quiet : {s t u : State} {i : ℕ} {ks : List Comm} → StepsTo s i action.Quiet [] t → Run t ks u → Run s ks u
   tells : {s t u : State} {i : ℕ} {d : SiteAction} {k : Comm} {ks : List Comm} → Speaks d k → StepsTo s i d (k ∷ []) t → Run t ks u → Run s (k ∷ ks) u
 
--- what steps has not ended
-pub goes : {r r' : Rest} {e e' : Store} {i : ℕ} {d : SiteAction} {m : List Comm} → Step r e i d m r' e' → r ≡ Done → ⊥
-goes {r = Done} st h = elim st [ ]
-goes {r = Stopped i} st h = absurd cc
-goes {r = Fresh p} st h = absurd cc
-goes {r = Finishing s c} st h = absurd cc
-goes {r = Getting s c v} st h = absurd cc
-goes {r = Then r ps} st h = absurd cc
-goes {r = Turns r v b n p} st h = absurd cc
-goes {r = Beside m r q} st h = absurd cc
-
-pub then_is : (r : Rest) (ps : Procs) → (r ≡ Done → ⊥) → Then r ps ≡ then_on r ps
-then_is Done ps h = absurd (h refl)
-then_is r ps h = refl
-
-pub turns_is : (r : Rest) (v : ℕ) (b : ℤ) (n : ℕ) (p : Proc) → (r ≡ Done → ⊥) → Turns r v b n p ≡ turns_on r v b n p
-turns_is Done v b n p h = absurd (h refl)
-turns_is r v b n p h = refl
-
-pub index_is : (r : Rest) (v : ℕ) (b : ℤ) (n : ℕ) (e : Store) → (r ≡ Done → ⊥) → e ≡ index_on r v b n e
-index_is Done v b n e h = absurd (h refl)
-index_is r v b n e h = refl
-
-pub left_is : (mine : Set) (r q : Rest) → (r ≡ Done → ⊥) → Beside mine r q ≡ beside_on mine r q
-left_is mine Done q h = absurd (h refl)
-left_is mine r q h = refl
-
-pub right_is : (mine : Set) (r q : Rest) → (q ≡ Done → ⊥) → Beside mine r q ≡ beside_on mine r q
-right_is mine Done Done h = absurd (h refl)
-right_is mine r q h = refl
-
+-- what is not all over stays beside what stands there
 pub beside_is : (mine : Set) (r q : Rest) → (beside_on mine r q ≡ Done → ⊥) → Beside mine r q ≡ beside_on mine r q
 beside_is mine Done Done h = absurd (h refl)
 beside_is mine r q h = refl
@@ -73,23 +44,15 @@ thens ps s = record { rest = then_on s.rest ps; store = s.store }
 abbrev pub turning : ℕ → ℤ → ℕ → Proc → State → State
 turning v b n p s = record { rest = turns_on s.rest v b n p; store = index_on s.rest v b n s.store }
 
-pub then_step : (ps : Procs) {s t : State} {i : ℕ} {d : SiteAction} {m : List Comm} → StepsTo s i d m t → StepsTo (thens ps s) i d m (thens ps t)
-then_step ps {s} {t} {i} {d} {m} st = subst (λ r. Step r s.store i d m (then_on t.rest ps) t.store) (then_is s.rest ps (goes st)) (in_then st)
-
 pub then_run : (ps : Procs) {s t : State} {ks : List Comm} → Run s ks t → Run (thens ps s) ks (thens ps t)
 then_run ps still = still
-then_run ps (quiet st h) = quiet (then_step ps st) (then_run ps h)
-then_run ps (tells w st h) = tells w (then_step ps st) (then_run ps h)
-
-pub turns_step : (v : ℕ) (b : ℤ) (n : ℕ) (p : Proc) {s t : State} {i : ℕ} {d : SiteAction} {m : List Comm} → StepsTo s i d m t → StepsTo (turning v b n p s) i d m (turning v b n p t)
-turns_step v b n p {s} {t} {i} {d} {m} st =
-    subst (λ r. Step r (index_on s.rest v b n s.store) i d m (turns_on t.rest v b n p) (index_on t.rest v b n t.store)) (turns_is s.rest v b n p (goes st))
-    (subst (λ e. Step (Turns s.rest v b n p) e i d m (turns_on t.rest v b n p) (index_on t.rest v b n t.store)) (index_is s.rest v b n s.store (goes st)) (in_turns st))
+then_run ps (quiet st h) = quiet (then_steps st ps) (then_run ps h)
+then_run ps (tells w st h) = tells w (then_steps st ps) (then_run ps h)
 
 pub turns_run : (v : ℕ) (b : ℤ) (n : ℕ) (p : Proc) {s t : State} {ks : List Comm} → Run s ks t → Run (turning v b n p s) ks (turning v b n p t)
 turns_run v b n p still = still
-turns_run v b n p (quiet st h) = quiet (turns_step v b n p st) (turns_run v b n p h)
-turns_run v b n p (tells w st h) = tells w (turns_step v b n p st) (turns_run v b n p h)
+turns_run v b n p (quiet st h) = quiet (turns_steps st v b n p) (turns_run v b n p h)
+turns_run v b n p (tells w st h) = tells w (turns_steps st v b n p) (turns_run v b n p h)
 
 pub append : {s t u : State} {ks ls : List Comm} → Run s ks t → Run t ls u → Run s (ks ++ ls) u
 append still g = g
@@ -120,9 +83,6 @@ left_alike mine s t h v u = join_left mine s.store t.store v (mine v) refl (h.th
 right_alike : (mine : Set) (s t : State) → Fit mine s t → Alike (uses_rest t.rest) t.store (join mine s.store t.store)
 right_alike mine s t h v u = join_right mine s.store t.store v (mine v) refl (h.ours v u)
 
-eqb_is : (v k : ℕ) → eqb v k ≡ true → v ≡ k
-eqb_is v k h = grind (arith, nat_tests)
-
 mine_at : (m b : Bool) (x y z : Datum) → (b ≡ true → m ≡ true) → (if b then z else (if m then x else y)) ≡ (if m then (if b then z else x) else y)
 mine_at true b x y z h = refl
 mine_at false true x y z h = absurd (clash (h refl) refl)
@@ -137,7 +97,7 @@ theirs_at true false x y z h = refl
 write_left : (mine : Set) (ws : Written) (e f : Store) → AllIn mine ws → write ws (join mine e f) ≡ join mine (write ws e) f
 write_left mine [] e f a = refl
 write_left mine (w ∷ ws) e f a =
-    ap (write ws) (same_store _ _ (λ k. mine_at (mine k) (eqb w.0 k) (e k) (f k) w.1 (λ q. sym (ap mine (eqb_is w.0 k q)) ∙ a.0)))
+    ap (write ws) (same_store _ _ (λ k. mine_at (mine k) (eqb w.0 k) (e k) (f k) w.1 (λ q. sym (ap mine (eqb-true w.0 k q)) ∙ a.0)))
     ∙ write_left mine ws (set e w.0 w.1) f a.1
 
 not_mine : (b : Bool) → not b ≡ true → b ≡ false
@@ -147,14 +107,14 @@ not_mine false h = refl
 write_right : (mine : Set) (ws : Written) (e f : Store) → AllIn (λ v. not (mine v)) ws → write ws (join mine e f) ≡ join mine e (write ws f)
 write_right mine [] e f a = refl
 write_right mine (w ∷ ws) e f a =
-    ap (write ws) (same_store _ _ (λ k. theirs_at (mine k) (eqb w.0 k) (e k) (f k) w.1 (λ q. sym (ap mine (eqb_is w.0 k q)) ∙ not_mine (mine w.0) a.0)))
+    ap (write ws) (same_store _ _ (λ k. theirs_at (mine k) (eqb w.0 k) (e k) (f k) w.1 (λ q. sym (ap mine (eqb-true w.0 k q)) ∙ not_mine (mine w.0) a.0)))
     ∙ write_right mine ws e (set f w.0 w.1) a.1
 
 -- a variable that is not among those written keeps what it holds
 pub kept : (s : Set) (ws : Written) (e : Store) (v : ℕ) → s v ≡ false → AllIn s ws → write ws e v ≡ e v
 kept s [] e v h a = refl
 kept s (w ∷ ws) e v h a =
-    kept s ws (set e w.0 w.1) v h a.1 ∙ ap (λ (b : Bool). if b then w.1 else e v) (not_true (eqb w.0 v) (λ q. clash (sym (ap s (eqb_is w.0 v q)) ∙ a.0) h))
+    kept s ws (set e w.0 w.1) v h a.1 ∙ ap (λ (b : Bool). if b then w.1 else e v) (not_true (eqb w.0 v) (λ q. clash (sym (ap s (eqb-true w.0 v q)) ∙ a.0) h))
 
 -- a step of one of two is a step of both
 record Lifted (mine : Set) (s t s' t' : State) (i : ℕ) (d : SiteAction) (m : List Comm) : Type 0 where
@@ -170,7 +130,7 @@ left_step mine {s} {s'} t {i} {d} {m} h st =
     let same = λ (v : ℕ) (c : changes_rest s.rest v ≡ false). ap (λ (f : Store). f v) l.there ∙ kept (changes_rest s.rest) l.written s.store v c l.changed in
     record {
       step = subst (λ f. Step (beside_on mine s.rest t.rest) e i d m (beside_on mine s'.rest t.rest) f) (write_left mine l.written s.store t.store ours ∙ ap (λ f. join mine f t.store) (sym l.there))
-          (subst (λ r. Step r e i d m (beside_on mine s'.rest t.rest) (write l.written e)) (left_is mine s.rest t.rest (goes st)) (in_left l.step));
+          (subst (λ r. Step r e i d m (beside_on mine s'.rest t.rest) (write l.written e)) (sym (left_is mine s.rest t.rest (goes st))) (in_left l.step));
       fit = record {
         apart = apart_left mine s.rest s'.rest t.rest part h.apart;
         theirs = λ v u f. h.theirs v (part.used v u) f ∙ sym (same v (not_true (changes_rest s.rest v) (λ c. clash (h.apart.left v c).0 f)));
@@ -187,7 +147,7 @@ right_step mine s {t} {t'} {i} {d} {m} h st =
     let same = λ (v : ℕ) (c : changes_rest t.rest v ≡ false). ap (λ (f : Store). f v) l.there ∙ kept (changes_rest t.rest) l.written t.store v c l.changed in
     record {
       step = subst (λ f. Step (beside_on mine s.rest t.rest) e i d m (beside_on mine s.rest t'.rest) f) (write_right mine l.written s.store t.store others ∙ ap (join mine s.store) (sym l.there))
-          (subst (λ r. Step r e i d m (beside_on mine s.rest t'.rest) (write l.written e)) (right_is mine s.rest t.rest (goes st)) (in_right l.step));
+          (subst (λ r. Step r e i d m (beside_on mine s.rest t'.rest) (write l.written e)) (sym (right_is mine s.rest t.rest (goes st))) (in_right l.step));
       fit = record {
         apart = apart_right mine s.rest t.rest t'.rest part h.apart;
         theirs = λ v u f. same v (not_true (changes_rest t.rest v) (λ c. clash u (h.apart.right v c).1)) ∙ h.theirs v u f;

@@ -13,9 +13,9 @@ use Rattle.vc_process.specs.Messages.{message, received, number_of}
 use Rattle.vc_process.specs.Syntax.{Test, Given, Whole, Bytes, Proc, SKIP, STOP, Assign, Output, Input, StopChan, SEQ, PAR, IF, WHILE, COUNT, ALT, Procs, no_parts, part, Branches, no_branches, branch, Guards, no_guards, guard}
 use Rattle.vc_process.specs.Values.{Store, value_of, holds, text_of, datum_of}
 use Rattle.vc_occam.specs.Traces.{Comm, Out, In, Fin, Stp, set}
-use Rattle.vc_occam.specs.Remains.{Rest, Done, Stopped, Fresh, Finishing, Getting, Then, Turns, Beside, and_then, begin, begin_seq, begin_par, begin_all, then_on, turns_on, index_on, beside_on, branch_on, chosen, GuardAt, first, later, Step, does_skip, does_empty_seq, does_empty_par, does_assign, faults_assign, faults_out, does_if, does_turn, does_leave, faults_while, does_count, does_count_none, faults_count, does_offer, does_finish, does_input, waits_input, gets, does_stop, does_choose, waits_choose, in_then, in_turns, in_left, in_right}
+use Rattle.vc_occam.specs.Remains.{Rest, Done, Stopped, Fresh, Finishing, Getting, Then, Turns, Beside, and_then, begin, begin_seq, begin_par, begin_all, then_on, turns_on, index_on, beside_on, branch_on, chosen, GuardAt, first, later, Step, does_assign, does_if, does_turn, does_count, does_offer, does_input, waits_input, gets, does_choose, waits_choose, in_then, in_turns, in_left, in_right}
 use Rattle.vc_occam.specs.States.{State, StepsTo, meeting, Does}
-use Rattle.vc_process.specs.ProcessStep.{ProcessStep, Offers, Wants, Chooses, Stops, Meets, Rests, Finishes, Receives}
+use Rattle.vc_process.specs.ProcessStep.{ProcessStep, Offers, Wants, Chooses, Stops, Meets, Finishes, Receives}
 use Rattle.vc_process.proofs.Bytes.{number_again}
 
 abbrev pub kind_of : Datum → ValueKind
@@ -62,18 +62,16 @@ module _ (channel : ℕ → ValueKind) (kinds : List ValueKind) where
   -- what is output, and what is input to, is of the channel's kind, and what is assigned of the variable's
   abbrev mutual
     pub Kinded : Proc → Type 0
-    Kinded (SKIP i) = Unit {0}
-    Kinded (STOP i) = Unit {0}
     Kinded (Assign i v a) = HasKind v (given_kind a)
     Kinded (Output i c a) = given_kind a ≡ channel c
     Kinded (Input i c v) = HasKind v (channel c)
-    Kinded (StopChan i c) = Unit {0}
     Kinded (SEQ i ps) = AllKinded ps
     Kinded (PAR i ps) = AllKinded ps
     Kinded (IF i bs) = BranchesKinded bs
     Kinded (WHILE i b p) = Kinded p
     Kinded (COUNT i v a n p) = HasKind v kind.Int × Kinded p
     Kinded (ALT i gs) = GuardsKinded gs
+    Kinded p = Unit {0}
 
     pub AllKinded : Procs → Type 0
     AllKinded no_parts = Unit {0}
@@ -94,31 +92,17 @@ module _ (channel : ℕ → ValueKind) (kinds : List ValueKind) where
 
   -- the same of what remains; and where something follows or stands beside, something remains
   abbrev pub Sound : Rest → Type 0
-  Sound Done = Unit {0}
-  Sound (Stopped i) = Unit {0}
   Sound (Fresh p) = Kinded p
-  Sound (Finishing s c) = Unit {0}
   Sound (Getting s c v) = HasKind v (channel c)
   Sound (Then r ps) = Remains r × Sound r × AllKinded ps
   Sound (Turns r v b n p) = Remains r × Sound r × HasKind v kind.Int × Kinded p
   Sound (Beside mine r q) = (Remains r ⊎ Remains q) × Sound r × Sound q
+  Sound r = Unit {0}
 
   begin_remains : (p : Proc) → Remains (begin p)
-  begin_remains (SKIP i) = tt
-  begin_remains (STOP i) = tt
-  begin_remains (Assign i v a) = tt
-  begin_remains (Output i c a) = tt
-  begin_remains (Input i c v) = tt
-  begin_remains (StopChan i c) = tt
-  begin_remains (SEQ i no_parts) = tt
   begin_remains (SEQ i (part p no_parts)) = begin_remains p
-  begin_remains (SEQ i (part p (part q ps))) = tt
   begin_remains (PAR i no_parts) = tt
-  begin_remains (PAR i (part p ps)) = tt
-  begin_remains (IF i bs) = tt
-  begin_remains (WHILE i b p) = tt
-  begin_remains (COUNT i v a n p) = tt
-  begin_remains (ALT i gs) = tt
+  begin_remains p = tt
 
   and_then_sound : (p : Proc) (ps : Procs) → Sound (begin p) → AllKinded ps → Sound (and_then (begin p) ps)
   and_then_sound p no_parts h k = h
@@ -128,16 +112,10 @@ module _ (channel : ℕ → ValueKind) (kinds : List ValueKind) where
     pub begins_sound : (p : Proc) → Kinded p → Sound (begin p)
     begins_sound (SKIP i) h = tt
     begins_sound (STOP i) h = tt
-    begins_sound (Assign i v a) h = h
-    begins_sound (Output i c a) h = h
-    begins_sound (Input i c v) h = h
     begins_sound (StopChan i c) h = tt
     begins_sound (SEQ i ps) h = seq_sound i ps h
     begins_sound (PAR i ps) h = par_sound i ps h
-    begins_sound (IF i bs) h = h
-    begins_sound (WHILE i b p) h = h
-    begins_sound (COUNT i v a n p) h = h
-    begins_sound (ALT i gs) h = h
+    begins_sound p h = h
 
     seq_sound : (i : ℕ) (ps : Procs) → AllKinded ps → Sound (begin_seq i ps)
     seq_sound i no_parts h = tt
@@ -181,31 +159,17 @@ module _ (channel : ℕ → ValueKind) (kinds : List ValueKind) where
 
   -- each step leaves it so
   pub step_sound : {r r' : Rest} {e e' : Store} {i : ℕ} {d : SiteAction} {m : List Comm} → Step r e i d m r' e' → Sound r → Sound r'
-  step_sound does_skip o = tt
-  step_sound does_empty_seq o = tt
-  step_sound does_empty_par o = tt
-  step_sound (does_assign h) o = tt
-  step_sound (faults_assign h) o = tt
-  step_sound (faults_out h) o = tt
   step_sound (does_if {s = s} {bs = bs} {e = e}) o = chosen_sound s bs e o
   step_sound (does_turn {p = p} h) o = (begin_remains p, begins_sound p o, (o, tt))
-  step_sound (does_leave h) o = tt
-  step_sound (faults_while h) o = tt
   step_sound (does_count {p = p} h) o = (begin_remains p, begins_sound p o.1, o.0, o.1)
-  step_sound (does_count_none h) o = tt
-  step_sound (faults_count h) o = tt
-  step_sound (does_offer h) o = tt
-  step_sound does_finish o = tt
-  step_sound (does_input h) o = tt
   step_sound waits_input o = o
-  step_sound (gets h) o = tt
-  step_sound does_stop o = tt
   step_sound (does_choose {p = p} dec g h k) o = begins_sound p (guard_sound g o).1
   step_sound (waits_choose dec g h) o = let n = guard_sound g o in (tt, n.0, (n.1, tt))
   step_sound (in_then {r' = r'} {ps = ps} st) o = then_sound r' ps (step_sound st o.1) o.2
   step_sound (in_turns {r' = r'} {v = v} {b = b} {n = n} {p = p} st) o = turns_sound r' v b n p (step_sound st o.1) o.2 o.3
   step_sound (in_left {r' = r'} {q = q} {mine = mine} st) o = beside_sound mine r' q (step_sound st o.1) o.2
   step_sound (in_right {r = r} {q' = q'} {mine = mine} st) o = beside_sound mine r q' o.1 (step_sound st o.2)
+  step_sound st o = tt
 
   -- a variable is set to a value of its kind
   set_kinds : (e : Store) (v : ℕ) (x : Datum) → StoreHasKinds e → ((k : ValueKind) → HasKind v k → kind_of x ≡ k) → StoreHasKinds (set e v x)
@@ -230,31 +194,16 @@ module _ (channel : ℕ → ValueKind) (kinds : List ValueKind) where
   index_kinds r v b n e h is = h
 
   pub step_kinds : {r r' : Rest} {e e' : Store} {i : ℕ} {d : SiteAction} {m : List Comm} → Step r e i d m r' e' → Sound r → StoreHasKinds e → StoreHasKinds e'
-  step_kinds does_skip o h = h
-  step_kinds does_empty_seq o h = h
-  step_kinds does_empty_par o h = h
   step_kinds (does_assign {v = v} {a = a} {e = e} {x = x} q) o h = set_kinds e v x h (λ k there. datum_kind a e x q ∙ one_kind v (given_kind a) k o there)
-  step_kinds (faults_assign q) o h = h
-  step_kinds (faults_out q) o h = h
-  step_kinds does_if o h = h
-  step_kinds (does_turn q) o h = h
-  step_kinds (does_leave q) o h = h
-  step_kinds (faults_while q) o h = h
   step_kinds (does_count {v = v} {e = e} {b = b} q) o h = set_index e v b h o.0
-  step_kinds (does_count_none q) o h = h
-  step_kinds (faults_count q) o h = h
-  step_kinds (does_offer q) o h = h
-  step_kinds does_finish o h = h
   step_kinds (does_input {v = v} {e = e} {m = m} {x = x} k) o h = set_received e v m x h k
-  step_kinds waits_input o h = h
   step_kinds (gets {v = v} {e = e} {m = m} {x = x} k) o h = set_received e v m x h k
-  step_kinds does_stop o h = h
   step_kinds (does_choose {v = v} {e = e} {m = m} {x = x} dec g t k) o h = set_received e v m x h k
-  step_kinds (waits_choose dec g t) o h = h
   step_kinds (in_then st) o h = step_kinds st o.1 h
   step_kinds (in_turns {r' = r'} {e' = e'} {v = v} {b = b} {n = n} st) o h = index_kinds r' v b n e' (step_kinds st o.1 h) o.2
   step_kinds (in_left st) o h = step_kinds st o.1 h
   step_kinds (in_right st) o h = step_kinds st o.2 h
+  step_kinds st o h = h
 
   -- the values that are output are of their channels' kinds
   abbrev OutputsKinded : List Comm → Type 0
@@ -263,31 +212,12 @@ module _ (channel : ℕ → ValueKind) (kinds : List ValueKind) where
   OutputsKinded (k ∷ t) = OutputsKinded t
 
   step_outputs : {r r' : Rest} {e e' : Store} {i : ℕ} {d : SiteAction} {m : List Comm} → Step r e i d m r' e' → Sound r → OutputsKinded m
-  step_outputs does_skip o = tt
-  step_outputs does_empty_seq o = tt
-  step_outputs does_empty_par o = tt
-  step_outputs (does_assign q) o = tt
-  step_outputs (faults_assign q) o = tt
-  step_outputs (faults_out q) o = tt
-  step_outputs does_if o = tt
-  step_outputs (does_turn q) o = tt
-  step_outputs (does_leave q) o = tt
-  step_outputs (faults_while q) o = tt
-  step_outputs (does_count q) o = tt
-  step_outputs (does_count_none q) o = tt
-  step_outputs (faults_count q) o = tt
   step_outputs (does_offer {a = a} {e = e} {x = x} q) o = (datum_kind a e x q ∙ o, tt)
-  step_outputs does_finish o = tt
-  step_outputs (does_input k) o = tt
-  step_outputs waits_input o = tt
-  step_outputs (gets k) o = tt
-  step_outputs does_stop o = tt
-  step_outputs (does_choose dec g t k) o = tt
-  step_outputs (waits_choose dec g t) o = tt
   step_outputs (in_then st) o = step_outputs st o.1
   step_outputs (in_turns st) o = step_outputs st o.1
   step_outputs (in_left st) o = step_outputs st o.1
   step_outputs (in_right st) o = step_outputs st o.2
+  step_outputs st o = tt
 
   -- what one site does by itself
   abbrev IsAlone : Rest → Type 0
@@ -316,24 +246,15 @@ module _ (channel : ℕ → ValueKind) (kinds : List ValueKind) where
   -- an input that has its message gets what the message is worth on the channel
   wants_alone : {r r' : Rest} {e e' : Store} {i : ℕ} {ks : List Comm} (c : ℕ) (m : List ℕ) → Step r e i (action.Want c (Some m)) ks r' e' → IsAlone r → Sound r → StoreHasKinds e → ks ≡ In c (value_as (channel c) m) ∷ []
   wants_alone c m (does_input {v = v} {e = e} {x = x} k) a o h = input_is e c v m x h o k
-  wants_alone c m (in_then st) a o h = absurd a
-  wants_alone c m (in_turns st) a o h = absurd a
-  wants_alone c m (in_left st) a o h = absurd a
-  wants_alone c m (in_right st) a o h = absurd a
+  wants_alone c m st a o h = absurd a
 
   chooses_alone : {r r' : Rest} {e e' : Store} {i : ℕ} {ks : List Comm} (n c : ℕ) (m : List ℕ) → Step r e i (action.Choose n c (Some m)) ks r' e' → IsAlone r → Sound r → StoreHasKinds e → ks ≡ In c (value_as (channel c) m) ∷ []
   chooses_alone n c m (does_choose {v = v} {e = e} {x = x} dec g t k) a o h = input_is e c v m x h (guard_sound g o).0 k
-  chooses_alone n c m (in_then st) a o h = absurd a
-  chooses_alone n c m (in_turns st) a o h = absurd a
-  chooses_alone n c m (in_left st) a o h = absurd a
-  chooses_alone n c m (in_right st) a o h = absurd a
+  chooses_alone n c m st a o h = absurd a
 
   gets_alone : {r r' : Rest} {e e' : Store} {i : ℕ} {ks : List Comm} (m : List ℕ) → Step r e i (action.Message m) ks r' e' → IsAlone r → Sound r → StoreHasKinds e → (c : ℕ) × (ks ≡ In c (value_as (channel c) m) ∷ [])
   gets_alone m (gets {c = c} {v = v} {e = e} {x = x} k) a o h = (c, input_is e c v m x h o k)
-  gets_alone m (in_then st) a o h = absurd a
-  gets_alone m (in_turns st) a o h = absurd a
-  gets_alone m (in_left st) a o h = absurd a
-  gets_alone m (in_right st) a o h = absurd a
+  gets_alone m st a o h = absurd a
 
   wants_value : {r r' : Rest} {e e' : Store} {i : ℕ} {ks : List Comm} (c : ℕ) (m : List ℕ) → Step r e i (action.Want c (Some m)) ks r' e' → Sound r → StoreHasKinds e → ks ≡ In c (value_as (channel c) m) ∷ []
   wants_value {r} c m st o h = let n = alone r st o in wants_alone c m n.3 n.4 n.5 h
@@ -357,32 +278,27 @@ module _ (channel : ℕ → ValueKind) (kinds : List ValueKind) where
   -- the communications of what a process does: an output's value is of its channel's kind, and an input gets what its message is worth
   abbrev pub Tells : ProcessStep → List Comm → Type 0
   Tells (Offers i c m) ks = (x : Datum) × (ks ≡ Out c x ∷ []) × (m ≡ message x) × (kind_of x ≡ channel c)
-  Tells (Wants i c None) ks = ks ≡ []
   Tells (Wants i c (Some m)) ks = ks ≡ In c (value_as (channel c) m) ∷ []
-  Tells (Chooses i k c None) ks = ks ≡ []
   Tells (Chooses i k c (Some m)) ks = ks ≡ In c (value_as (channel c) m) ∷ []
   Tells (Stops i c) ks = ks ≡ Stp c ∷ []
   Tells (Meets i j k c m) ks = (x : Datum) × (ks ≡ Out c x ∷ In c (value_as (channel c) m) ∷ Fin c ∷ []) × (m ≡ message x) × (kind_of x ≡ channel c)
-  Tells (Rests i) ks = ks ≡ []
   Tells (Finishes c) ks = ks ≡ Fin c ∷ []
   Tells (Receives c m) ks = ks ≡ In c (value_as (channel c) m) ∷ []
+  Tells d ks = ks ≡ []
 
   same_value : (c d : ℕ) (x y : Datum) → In c x ∷ [] ≡ In d y ∷ [] → x ≡ y
   same_value c d x y e = cc
 
   pub doing_tells : (s s' : State) (d : ProcessStep) (ks : List Comm) → Does s d ks s' → Sound s.rest → StoreHasKinds s.store → Tells d ks
   doing_tells s s' (Offers i c m) ks h o k = (h.0, h.2, h.1, (subst OutputsKinded h.2 (step_outputs h.3 o)).0)
-  doing_tells s s' (Wants i c None) ks h o k = h.0
   doing_tells s s' (Wants i c (Some m)) ks h o k = wants_value c m h.2 o k
-  doing_tells s s' (Chooses i n c None) ks h o k = h.0
   doing_tells s s' (Chooses i n c (Some m)) ks h o k = chooses_value n c m h.2 o k
-  doing_tells s s' (Stops i c) ks h o k = h.0
   doing_tells s s' (Meets i j n c m) ks h o k =
       let is = same_value c c h.1 (value_as (channel c) m) (meets_value n c m h.7 (step_sound h.6 o) (step_kinds h.6 o k)) in
       (h.0, h.5 ∙ ap (λ y. Out c h.0 ∷ In c y ∷ Fin c ∷ []) is, h.4, (step_outputs h.6 o).0)
-  doing_tells s s' (Rests i) ks h o k = h.0
   doing_tells s s' (Finishes c) ks h o k = h.1
   doing_tells s s' (Receives c m) ks h o k = gets_value c m h.1 h.2 h.3 o k
+  doing_tells s s' d ks h o k = h.0
 
   abbrev Stays : State → Type 0
   Stays s = Sound s.rest × StoreHasKinds s.store
@@ -393,12 +309,9 @@ module _ (channel : ℕ → ValueKind) (kinds : List ValueKind) where
   -- whatever a process does leaves it so
   pub doing_stays : (s s' : State) (d : ProcessStep) (ks : List Comm) → Does s d ks s' → Sound s.rest × StoreHasKinds s.store → Sound s'.rest × StoreHasKinds s'.store
   doing_stays s s' (Offers i c m) ks h o = stays h.3 o
-  doing_stays s s' (Wants i c None) ks h o = stays h.1 o
   doing_stays s s' (Wants i c (Some m)) ks h o = stays h.2 o
-  doing_stays s s' (Chooses i k c None) ks h o = stays h.1 o
   doing_stays s s' (Chooses i k c (Some m)) ks h o = stays h.2 o
-  doing_stays s s' (Stops i c) ks h o = stays h.1 o
   doing_stays s s' (Meets i j k c m) ks h o = stays h.8 (stays h.7 (stays h.6 o))
-  doing_stays s s' (Rests i) ks h o = stays h.1 o
   doing_stays s s' (Finishes c) ks h o = stays h.2 o
   doing_stays s s' (Receives c m) ks h o = stays h.3 o
+  doing_stays s s' d ks h o = stays h.1 o

@@ -1,5 +1,7 @@
 -- A step, followed by any trace of what remains, is a trace of what remained before.
-use Rattle.std.proofs.Common.{◌≡◌, ℕ, zero, suc, ℤ, Bool, true, false, eqb, refl, sym, ap, ◌∙◌, arith, subst, List, [], ◌∷◌, ◌++◌, append_assoc, Option, Some, None, pos, ◌+ℤ◌}
+use Rattle.std.proofs.Common.{◌≡◌, ℕ, suc, ℤ, Bool, true, false, eqb, refl, sym, ap, ◌∙◌, subst, List, [], ◌∷◌, ◌++◌, append_assoc, Option, Some, None, pos, ◌+ℤ◌}
+use Rattle.std.proofs.lemmas.List.{append-nil}
+use Rattle.std.proofs.lemmas.Bool.{eqb-true}
 use Rattle.std.specs.Prelude.{if◌then◌else◌}
 use Rattle.vc_process.specs.declared.datum.Datum.{Datum}
 use Rattle.vc_process.specs.declared.datum.Datum.TheVariants as datum
@@ -8,77 +10,20 @@ use Rattle.vc_occam.specs.SiteActions.{SiteAction}
 use Rattle.vc_process.specs.Syntax.{Exp, Test, Proc, IF, WHILE, COUNT, Procs, no_parts, part, Branches, no_branches, branch, Guards}
 use Rattle.vc_process.specs.Values.{Store, value_of, holds}
 use Rattle.vc_process.specs.Messages.{received}
-use Rattle.vc_process.specs.Usage.{Set, ◌∪◌, just, changes, changes_guards, changes_all}
+use Rattle.vc_process.specs.Usage.{Set}
 use Rattle.vc_occam.specs.Traces.{Comm, In, End, Open, Ended, set, SameKind, both_ended, Counts, Trace, cut, skip, assign, begin_out, out, input, stop_chan, seq, par, choose, leave, last_turn, turn, count, select, TraceSeq, seq_end, seq_open, seq_next, par_end, here, further, counted, count_open, count_turn, TraceAlt, this, that}
-use Rattle.vc_occam.specs.Remains.{Rest, Done, Then, Turns, Beside, begin, TraceRest, done, stopped, fresh, finishing_cut, finishing, getting_cut, getting, then_open, then_next, turns_open, turns_next, beside, index_on, branch_on, chosen, GuardAt, first, later, Step, does_skip, does_empty_seq, does_empty_par, does_assign, faults_assign, faults_out, does_if, does_turn, does_leave, faults_while, does_count, does_count_none, faults_count, does_offer, does_finish, does_input, waits_input, gets, does_stop, does_choose, waits_choose, in_then, in_turns, in_left, in_right, changes_rest, uses_rest, Apart, KeepsVariablesApart, StepsAreTraces}
-use Rattle.vc_occam.proofs.Stores.{or_left, or_right, same_store, set_end}
+use Rattle.vc_occam.specs.Remains.{Rest, Then, Turns, Beside, begin, TraceRest, done, stopped, fresh, finishing_cut, finishing, getting_cut, getting, then_open, then_next, turns_open, turns_next, beside, branch_on, chosen, GuardAt, first, later, Step, does_skip, does_empty_seq, does_empty_par, does_assign, does_if, does_turn, does_leave, does_count, does_count_none, does_offer, does_finish, does_input, waits_input, gets, does_stop, does_choose, waits_choose, in_then, in_turns, in_left, in_right, changes_rest, uses_rest, Apart, KeepsVariablesApart, StepsAreTraces}
+use Rattle.vc_occam.proofs.Agreement.{AllIn, Written, like, write}
+use Rattle.vc_occam.proofs.Stores.{same_store, set_end}
 use Rattle.vc_occam.proofs.Rests.{begin_is, then_back, turns_back, beside_back, merge_left, merge_right, frame_rest}
-use Rattle.std.proofs.lemmas.Bool.Decides.{nat_tests}
-
--- one store comes from another by setting some of these variables
-pub data Reaches (may : Set) : Store → Store → Type 0 where
-  same : {e : Store} → Reaches may e e
-  put : {e f : Store} (v : ℕ) (x : Datum) → may v ≡ true → Reaches may (set e v x) f → Reaches may e f
-
-wider : {a b : Set} {e f : Store} → ((v : ℕ) → a v ≡ true → b v ≡ true) → Reaches a e f → Reaches b e f
-wider w same = same
-wider w (put v x h r) = put v x (w v h) (wider w r)
-
-then_put : {a : Set} {e f : Store} (v : ℕ) (x : Datum) → a v ≡ true → Reaches a e f → Reaches a e (set f v x)
-then_put v x h same = put v x h same
-then_put v x h (put w y k r) = put w y k (then_put v x h r)
-
-eqb_same : (v : ℕ) → eqb v v ≡ true
-eqb_same v = grind (arith, nat_tests)
-
-guard_changes : {gs : Guards} {k c v : ℕ} {b : Test} {p : Proc} → GuardAt gs k b c v p → changes_guards gs v ≡ true
-guard_changes (first {c = c} {v = v} {p = p} {gs = gs}) = or_left ((just v ∪ changes p) v) (changes_guards gs v) (or_left (just v v) (changes p v) (eqb_same v))
-guard_changes (later {c = c} {v = v} {v' = w} {p = p} {gs = gs} g) = or_right ((just v ∪ changes p) w) (changes_guards gs w) (guard_changes g)
-
-index_moves : (r : Rest) (v : ℕ) (b : ℤ) (n : ℕ) {a : Set} {e f : Store} → a v ≡ true → Reaches a e f → Reaches a e (index_on r v b n f)
-index_moves Done v b (suc n) h m = then_put v (datum.Int b) h m
-index_moves Done v b zero h m = m
-index_moves r v b n h m = m
-
--- a step sets only variables that what remains may change
-pub moves : {r r' : Rest} {e e' : Store} {i : ℕ} {d : SiteAction} {m : List Comm} → Step r e i d m r' e' → Reaches (changes_rest r) e e'
-moves does_skip = same
-moves does_empty_seq = same
-moves does_empty_par = same
-moves (does_assign {v = v} q) = put v _ (eqb_same v) same
-moves (faults_assign q) = same
-moves (faults_out q) = same
-moves does_if = same
-moves (does_turn q) = same
-moves (does_leave q) = same
-moves (faults_while q) = same
-moves (does_count {v = v} {p = p} q) = put v _ (or_left (just v v) (changes p v) (eqb_same v)) same
-moves (does_count_none q) = same
-moves (faults_count q) = same
-moves (does_offer q) = same
-moves does_finish = same
-moves (does_input {v = v} k) = put v _ (eqb_same v) same
-moves waits_input = same
-moves (gets {v = v} k) = put v _ (eqb_same v) same
-moves does_stop = same
-moves (does_choose {v = v} dec g h k) = put v _ (guard_changes g) same
-moves (waits_choose dec g h) = same
-moves (in_then {r = r} {ps = ps} s) = wider (λ v. or_left (changes_rest r v) (changes_all ps v)) (moves s)
-moves (in_turns {r = r} {r' = r'} {v = w} {b = b} {n = n} {p = p} s) =
-    index_moves r' w b n (or_right (changes_rest r w) ((just w ∪ changes p) w) (or_left (just w w) (changes p w) (eqb_same w))) (wider (λ v. or_left (changes_rest r v) ((just w ∪ changes p) v)) (moves s))
-moves (in_left {r = r} {q = q} s) = wider (λ v. or_left (changes_rest r v) (changes_rest q v)) (moves s)
-moves (in_right {r = r} {q = q} s) = wider (λ v. or_right (changes_rest r v) (changes_rest q v)) (moves s)
 
 back_at : (v k : ℕ) (b : Bool) (e : Store) (x : Datum) → (b ≡ true → v ≡ k) → (if b then e v else (if b then x else e k)) ≡ e k
 back_at v k true e x h = ap e (h refl)
 back_at v k false e x h = refl
 
-eqb_is : (v k : ℕ) → eqb v k ≡ true → v ≡ k
-eqb_is v k h = grind (arith, nat_tests)
-
 -- a variable set, and set back
 set_back : (e : Store) (v : ℕ) (x : Datum) → set (set e v x) v (e v) ≡ e
-set_back e v x = same_store _ _ (λ k. back_at v k (eqb v k) e x (eqb_is v k))
+set_back e v x = same_store _ _ (λ k. back_at v k (eqb v k) e x (eqb-true v k))
 
 true_false : (b : Bool) → b ≡ true → b ≡ false → ⊥
 true_false b h k = let e : true ≡ false = sym h ∙ k in cc
@@ -98,34 +43,37 @@ right_end : (mine : Set) (v : ℕ) (d : Datum) (x y : End) → mine v ≡ true �
 right_end mine v d Open y h = refl
 right_end mine v d (Ended f) Open h = refl
 right_end mine v d (Ended f) (Ended g) h =
-    ap Ended (same_store _ _ (λ k. mine_at (mine k) (eqb v k) (f k) (g k) d (λ e. sym (ap mine (eqb_is v k e)) ∙ h)))
+    ap Ended (same_store _ _ (λ k. mine_at (mine k) (eqb v k) (f k) (g k) d (λ e. sym (ap mine (eqb-true v k e)) ∙ h)))
 
 left_end : (mine : Set) (v : ℕ) (d : Datum) (x y : End) → mine v ≡ false → both_ended mine (set_end v d x) y ≡ both_ended mine x y
 left_end mine v d Open y h = refl
 left_end mine v d (Ended f) Open h = refl
 left_end mine v d (Ended f) (Ended g) h =
-    ap Ended (same_store _ _ (λ k. theirs_at (mine k) (eqb v k) (f k) (g k) d (λ e. sym (ap mine (eqb_is v k e)) ∙ h)))
+    ap Ended (same_store _ _ (λ k. theirs_at (mine k) (eqb v k) (f k) (g k) d (λ e. sym (ap mine (eqb-true v k e)) ∙ h)))
 
 unset : {q : Rest} {e : Store} (v : ℕ) (x : Datum) {t : List Comm} {y : End} → uses_rest q v ≡ false → TraceRest q (set e v x) t y → TraceRest q e t (set_end v (e v) y)
 unset {q} {e} v x {t} {y} u h =
     subst (λ f. TraceRest q f t (set_end v (e v) y)) (set_back e v x) (frame_rest v (e v) h u)
 
+-- what a step writes, it writes in what remains may change
+abbrev Writes : Rest → Store → Store → Type 0
+Writes r e f = (ws : Written) × AllIn (changes_rest r) ws × (f ≡ write ws e)
+
+writes : {r r' : Rest} {e e' : Store} {i : ℕ} {d : SiteAction} {m : List Comm} → Step r e i d m r' e' → Writes r e e'
+writes {e = e} st = let l = like st e (λ v u. refl) in (l.written, l.changed, l.there)
+
 -- the traces of the others before one part's step, from those after it
-others_before : {q : Rest} {t : List Comm} {y : End} {may mine : Set} {e e' : Store} → ((v : ℕ) → may v ≡ true → (mine v ≡ true) × (uses_rest q v ≡ false)) → Reaches may e e' → TraceRest q e' t y → (z : End) × TraceRest q e t z × ((x : End) → both_ended mine x z ≡ both_ended mine x y)
-others_before {y = y} a same h = (y, h, λ x. refl)
-others_before {q} {t} {y} {may} {mine} {e} a (put v d m r) h =
-    let n = others_before a r h in
-    (set_end v (e v) n.0, unset v d (a v m).1 n.1, λ x. right_end mine v (e v) x n.0 (a v m).0 ∙ n.2 x)
+others_before : {q : Rest} {t : List Comm} {y : End} {may mine : Set} (ws : Written) (e : Store) → ((v : ℕ) → may v ≡ true → (mine v ≡ true) × (uses_rest q v ≡ false)) → AllIn may ws → TraceRest q (write ws e) t y → (z : End) × TraceRest q e t z × ((x : End) → both_ended mine x z ≡ both_ended mine x y)
+others_before {y = y} [] e a m h = (y, h, λ x. refl)
+others_before {mine = mine} (w ∷ ws) e a m h =
+    let n = others_before {mine = mine} ws (set e w.0 w.1) a m.1 h in
+    (set_end w.0 (e w.0) n.0, unset w.0 w.1 (a w.0 m.0).1 n.1, λ x. right_end mine w.0 (e w.0) x n.0 (a w.0 m.0).0 ∙ n.2 x)
 
-part_before : {q : Rest} {t : List Comm} {y : End} {may mine : Set} {e e' : Store} → ((v : ℕ) → may v ≡ true → (mine v ≡ false) × (uses_rest q v ≡ false)) → Reaches may e e' → TraceRest q e' t y → (z : End) × TraceRest q e t z × ((x : End) → both_ended mine z x ≡ both_ended mine y x)
-part_before {y = y} a same h = (y, h, λ x. refl)
-part_before {q} {t} {y} {may} {mine} {e} a (put v d m r) h =
-    let n = part_before a r h in
-    (set_end v (e v) n.0, unset v d (a v m).1 n.1, λ x. left_end mine v (e v) n.0 x (a v m).0 ∙ n.2 x)
-
-append_none : (t : List Comm) → t ++ [] ≡ t
-append_none [] = refl
-append_none (x ∷ t) = ap (λ u. x ∷ u) (append_none t)
+part_before : {q : Rest} {t : List Comm} {y : End} {may mine : Set} (ws : Written) (e : Store) → ((v : ℕ) → may v ≡ true → (mine v ≡ false) × (uses_rest q v ≡ false)) → AllIn may ws → TraceRest q (write ws e) t y → (z : End) × TraceRest q e t z × ((x : End) → both_ended mine z x ≡ both_ended mine y x)
+part_before {y = y} [] e a m h = (y, h, λ x. refl)
+part_before {mine = mine} (w ∷ ws) e a m h =
+    let n = part_before {mine = mine} ws (set e w.0 w.1) a m.1 h in
+    (set_end w.0 (e w.0) n.0, unset w.0 w.1 (a w.0 m.0).1 n.1, λ x. left_end mine w.0 (e w.0) n.0 x (a w.0 m.0).0 ∙ n.2 x)
 
 guard_trace : {gs : Guards} {k c v : ℕ} {b : Test} {p : Proc} {e : Store} {x : Datum} {t : List Comm} {y : End} → GuardAt gs k b c v p → holds b e ≡ Some true → SameKind x (e v) → Trace p (set e v x) t y → TraceAlt gs e (In c x ∷ t) y
 guard_trace first h k r = this h k r
@@ -133,7 +81,7 @@ guard_trace (later g) h k r = that (guard_trace g h k r)
 
 one_part : {p : Proc} {e : Store} {t : List Comm} {x : End} → TraceSeq (part p no_parts) e t x → Trace p e t x
 one_part (seq_open q) = q
-one_part {p} {e} (seq_next {t = t} {x = x} q seq_end) = subst (λ u. Trace p e u x) (sym (append_none t)) q
+one_part {p} {e} (seq_next {t = t} {x = x} q seq_end) = subst (λ u. Trace p e u x) (sym (append-nil t)) q
 
 turn_is : {i : ℕ} {b : Test} {p : Proc} {e : Store} {t : List Comm} {x : End} → holds b e ≡ Some true → TraceRest (Then (begin p) (part (WHILE i b p) no_parts)) e t x → Trace (WHILE i b p) e t x
 turn_is {p = p} h (then_open q) = last_turn h (begin_is p q)
@@ -166,14 +114,14 @@ turns_law m f (turns_open {t = t} q) = turns_open (f t Open q)
 turns_law {r} {r'} {e} {e'} {v} {b} {n} {p} m f (turns_next {f = f'} {t = t} {u = u} {x = x} q k) =
     subst (λ w. TraceRest (Turns r v b n p) e w x) (append_assoc m t u) (turns_next (f t (Ended f') q) k)
 
-left_law : {r r' q : Rest} {e e' : Store} {mine : Set} (m : List Comm) → ((t : List Comm) (x : End) → TraceRest r' e' t x → TraceRest r e (m ++ t) x) → Apart mine r q → Reaches (changes_rest r) e e' → {t : List Comm} {x : End} → TraceRest (Beside mine r' q) e' t x → TraceRest (Beside mine r q) e (m ++ t) x
-left_law {r} {r'} {q} {e} {e'} {mine} m f a w (beside {s = s} {u = u} {x = x} h k mg) =
-    let n = others_before {mine = mine} a.left w k in
+left_law : {r r' q : Rest} {e e' : Store} {mine : Set} (m : List Comm) → ((t : List Comm) (x : End) → TraceRest r' e' t x → TraceRest r e (m ++ t) x) → Apart mine r q → Writes r e e' → {t : List Comm} {x : End} → TraceRest (Beside mine r' q) e' t x → TraceRest (Beside mine r q) e (m ++ t) x
+left_law {r} {q = q} {e = e} {mine = mine} m f a w (beside {s = s} {t = t} {u = u} {x = x} {y = y} h k mg) =
+    let n = others_before {mine = mine} w.0 e a.left w.1 (subst (λ g. TraceRest q g t y) w.2 k) in
     subst (TraceRest (Beside mine r q) e (m ++ u)) (n.2 x) (beside (f s x h) n.1 (merge_left m mg))
 
-right_law : {r q q' : Rest} {e e' : Store} {mine : Set} (m : List Comm) → ((t : List Comm) (x : End) → TraceRest q' e' t x → TraceRest q e (m ++ t) x) → Apart mine r q → Reaches (changes_rest q) e e' → {t : List Comm} {x : End} → TraceRest (Beside mine r q') e' t x → TraceRest (Beside mine r q) e (m ++ t) x
-right_law {r} {q} {q'} {e} {e'} {mine} m f a w (beside {t = t} {u = u} {y = y} h k mg) =
-    let n = part_before {mine = mine} a.right w h in
+right_law : {r q q' : Rest} {e e' : Store} {mine : Set} (m : List Comm) → ((t : List Comm) (x : End) → TraceRest q' e' t x → TraceRest q e (m ++ t) x) → Apart mine r q → Writes q e e' → {t : List Comm} {x : End} → TraceRest (Beside mine r q') e' t x → TraceRest (Beside mine r q) e (m ++ t) x
+right_law {r} {q} {e = e} {mine = mine} m f a w (beside {s = s} {t = t} {u = u} {x = x} {y = y} h k mg) =
+    let n = part_before {mine = mine} w.0 e a.right w.1 (subst (λ g. TraceRest r g s x) w.2 h) in
     subst (TraceRest (Beside mine r q) e (m ++ u)) (n.2 y) (beside n.1 (f t y k) (merge_right m mg))
 
 -- what a message is worth for a variable is of the variable's kind
@@ -186,15 +134,11 @@ law does_skip l done = fresh skip
 law does_empty_seq l done = fresh (seq seq_end)
 law does_empty_par l done = fresh (par par_end)
 law (does_assign q) l done = fresh (assign q)
-law (faults_assign q) l stopped = fresh cut
-law (faults_out q) l stopped = fresh cut
 law (does_if {s = s} {bs = bs} {e = e}) l h = fresh (chosen_is s bs e h)
 law (does_turn q) l h = fresh (turn_is q h)
 law (does_leave q) l done = fresh (leave q)
-law (faults_while q) l stopped = fresh cut
 law (does_count q) l h = fresh (count_is q h)
 law (does_count_none q) l done = fresh (count q counted)
-law (faults_count q) l stopped = fresh cut
 law (does_offer q) l finishing_cut = fresh (begin_out q)
 law (does_offer q) l finishing = fresh (out q)
 law does_finish l done = finishing
@@ -208,8 +152,9 @@ law (waits_choose dec g h) l (then_open getting_cut) = fresh cut
 law (waits_choose dec g h) l (then_next (getting k) r) = fresh (select dec (guard_trace g h k (one_part r)))
 law (in_then {m = m} {r' = r'} {ps = ps} st) l h = then_law m (λ t x q. law st l q) (then_back r' ps h)
 law (in_turns {m = m} {r' = r'} {v = v} {b = b} {n = n} {p = p} st) l h = turns_law m (λ t x q. law st l q) (turns_back r' v b n p h)
-law (in_left {m = m} {r' = r'} {q = q} {mine = mine} st) l h = left_law m (λ t x q. law st l.1 q) l.0 (moves st) (beside_back mine r' q h)
-law (in_right {m = m} {r = r} {q' = q'} {mine = mine} st) l h = right_law m (λ t x q. law st l.2 q) l.0 (moves st) (beside_back mine r q' h)
+law (in_left {m = m} {r' = r'} {q = q} {mine = mine} st) l h = left_law m (λ t x q. law st l.1 q) l.0 (writes st) (beside_back mine r' q h)
+law (in_right {m = m} {r = r} {q' = q'} {mine = mine} st) l h = right_law m (λ t x q. law st l.2 q) l.0 (writes st) (beside_back mine r q' h)
+law st l stopped = fresh cut
 
 pub steps_are_traces : StepsAreTraces
 steps_are_traces r e i d m r' e' st l t x h = law st l h

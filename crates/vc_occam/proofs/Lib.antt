@@ -14,6 +14,7 @@ pub mod Completeness
 pub mod Counts
 pub mod Determinate
 pub mod Doers
+pub mod PartOfSite
 pub mod Endings
 pub mod Exchanges
 pub mod Scope
@@ -28,6 +29,7 @@ pub mod Inside
 pub mod Preservation
 pub mod KindPreservation
 pub mod Law
+pub mod Lifting
 pub mod SiteMoves
 pub mod Made
 pub mod FrameTrees

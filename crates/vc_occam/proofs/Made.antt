@@ -6,31 +6,30 @@ use Rattle.std.proofs.lemmas.List.Elements.{Contains-append_left, Contains-appen
 use borrow.Author.Count.{below_more}
 use Rattle.std.specs.Prelude.{is_some, ◌+ℤ◌, ◌==◌}
 use Rattle.std.specs.List.{Contains}
-use Rattle.std.specs.Option.{option_or}
 use Rattle.vc_occam.specs.declared.answer.Answer.{Answer}
 use Rattle.vc_process.specs.declared.datum.Datum.{Datum}
 use Rattle.vc_occam.specs.SiteActions.{SiteAction}
 use Rattle.vc_occam.specs.SiteActions as action
 use Rattle.vc_occam.specs.declared.moves.Move.{Move}
 use Rattle.vc_occam.specs.declared.moves.Move.TheVariants.{Offer, Want, Choose, Stopch, Inner, Quiet}
-use Rattle.vc_process.specs.Syntax.{Exp, Test, Given, Proc, SKIP, STOP, Assign, Output, Input, StopChan, SEQ, PAR, IF, WHILE, COUNT, ALT, Procs, no_parts, part, Guards, no_guards, guard}
+use Rattle.vc_process.specs.Syntax.{Exp, Test, Given, Proc, SKIP, Assign, Output, Input, StopChan, SEQ, PAR, IF, WHILE, COUNT, ALT, Procs, no_parts, Guards, no_guards, guard}
 use Rattle.vc_process.specs.Values.{Store, value_of, holds, datum_of, within}
 use Rattle.vc_process.specs.Usage.{Set}
 use Rattle.vc_process.specs.Messages.{message, received}
-use Rattle.vc_occam.specs.Traces.{set, Comm, Out, Fin, In, Stp, Decided}
-use Rattle.vc_occam.specs.Remains.{Rest, Done, Stopped, Fresh, Finishing, Getting, Then, Turns, Beside, then_on, turns_on, index_on, beside_on, GuardAt, first, later, Step, does_skip, does_empty_seq, does_empty_par, does_assign, faults_assign, faults_out, does_if, does_turn, does_leave, faults_while, does_count, does_count_none, faults_count, does_offer, does_finish, does_input, waits_input, gets, does_stop, does_choose, waits_choose, in_then, in_turns, in_left, in_right}
+use Rattle.vc_occam.specs.Traces.{Comm, Out, Fin, In, Stp, Decided}
+use Rattle.vc_occam.specs.Remains.{Rest, Done, Fresh, Then, Turns, Beside, then_on, turns_on, index_on, beside_on, GuardAt, first, later, Step, does_skip, does_empty_seq, does_empty_par, does_assign, faults_assign, faults_out, does_if, does_turn, does_leave, faults_while, does_count, does_count_none, faults_count, does_offer, does_input, waits_input, does_stop, does_choose, waits_choose, in_then, in_turns, in_left, in_right}
 use Rattle.vc_occam.specs.First.{all_decided, choices, own, meetings, joined}
 use Rattle.vc_occam.specs.Private.Frames.{Able}
 use Rattle.vc_occam.specs.MoveSites.{site_of}
 use Rattle.vc_occam.specs.Private.MoveSites.{action_for, action_on, partner}
 use Rattle.vc_occam.specs.Laws.{ListedMovesCanBeMade}
-use Rattle.vc_occam.specs.Sites.{sites, sites_all, sites_rest, OwnSites}
-use Rattle.vc_occam.specs.States.{IsAwaited, State, Does, meeting, output_at, carried, sent_by, bytes_or_none, came, doing, output, input, waiting}
+use Rattle.vc_occam.specs.Sites.{OwnSites}
+use Rattle.vc_occam.specs.States.{IsAwaited, State, Does, meeting, output_at, carried, sent_by, bytes_or_none, came, doing, output, waiting}
 use Rattle.vc_process.specs.ProcessStep.{Wants, Chooses}
 use Rattle.vc_process.proofs.Lists.{only, none, at_front, behind, front_or}
+use Rattle.vc_occam.proofs.Doers.{sent_value}
+use Rattle.vc_occam.proofs.GoingOn.{finishes, receives}
 use Rattle.vc_occam.proofs.Insertion.{is_inserted}
-use Rattle.vc_occam.proofs.Sites.{not_true, clash}
-use Rattle.vc_occam.proofs.Stores.{or_left, or_right, or_false}
 use Rattle.vc_occam.proofs.StepWaits.{step_waits}
 
 -- a process that hasn't begun stands in what remains
@@ -43,17 +42,14 @@ pub data Stands (p : Proc) : Rest → Type 0 where
 
 -- a move is that of a process that hasn't begun
 own_stands : (r : Rest) (e : Store) (m : Move) → Contains (own r e) m → (p : Proc) × Stands p r × Contains (own (Fresh p) e) m
-own_stands Done e m h = absurd (none m h)
-own_stands (Stopped s) e m h = absurd (none m h)
 own_stands (Fresh p) e m h = (p, itself, h)
-own_stands (Finishing i c) e m h = absurd (none m h)
-own_stands (Getting i c v) e m h = absurd (none m h)
 own_stands (Then r ps) e m h = let n = own_stands r e m h in (n.0, within_then n.1, n.2)
 own_stands (Turns r v b k p) e m h = let n = own_stands r e m h in (n.0, within_turns n.1, n.2)
 own_stands (Beside mine r q) e m h = elim (Contains-append_cases (own r e) (own q e) m h) [
   | inl k ↦ let n = own_stands r e m k in (n.0, on_left n.1, n.2)
   | inr k ↦ let n = own_stands q e m k in (n.0, on_right n.1, n.2)
 ]
+own_stands r e m h = absurd (none m h)
 
 -- what a process that hasn't begun does, what remains does with it
 lift : {p : Proc} {r r' : Rest} {e e' : Store} {i : ℕ} {d : SiteAction} {m : List Comm} → Stands p r → Step (Fresh p) e i d m r' e' → (q : Rest) × (f : Store) × Step r e i d m q f
@@ -170,19 +166,17 @@ chooses i gs e m false d h = absurd (none m h)
 
 pub begins : (p : Proc) (e : Store) (m : Move) → Contains (own (Fresh p) e) m → Begins m p e
 begins (SKIP i) e m h = quiet h does_skip
-begins (STOP i) e m h = absurd (none m h)
 begins (Assign i v a) e m h = assigns i v a e m (datum_of a e) refl h
 begins (Output i c a) e m h = offers i c a e m (datum_of a e) refl h
 begins (Input i c v) e m h = subst (λ x. Begins x (Input i c v) e) (only (Want i c) m h) (v, refl)
 begins (StopChan i c) e m h = subst (λ x. Begins x (StopChan i c) e) (only (Stopch i c) m h) refl
 begins (SEQ i no_parts) e m h = quiet h does_empty_seq
 begins (PAR i no_parts) e m h = quiet h does_empty_par
-begins (SEQ i (part p ps)) e m h = absurd (none m h)
-begins (PAR i (part p ps)) e m h = absurd (none m h)
 begins (IF i bs) e m h = quiet h does_if
 begins (WHILE i b p) e m h = tests i b p e m (holds b e) refl h
 begins (COUNT i v a k p) e m h = counts i v a k p e m (value_of a e) (value_of k e) refl refl h
 begins (ALT i gs) e m h = chooses i gs e m (all_decided gs e) refl h
+begins p e m h = absurd (none m h)
 
 -- a move in what remains
 pub own_begins : (r : Rest) (e : Store) (m : Move) → Contains (own r e) m → (p : Proc) × Stands p r × Begins m p e
@@ -191,19 +185,11 @@ own_begins r e m h = let n = own_stands r e m h in (n.0, n.1, begins n.0 e m n.2
 -- a move that is listed is a site's own, or an output that meets an input or guard
 abbrev pub Meeting : List Move → List Move → Move → Type 0
 Meeting all ms (Inner i j k c) = Contains ms (Offer i c) × Contains all (partner j k c)
-Meeting all ms (Offer i c) = ⊥
-Meeting all ms (Want i c) = ⊥
-Meeting all ms (Choose i k c) = ⊥
-Meeting all ms (Stopch i c) = ⊥
-Meeting all ms (Quiet i) = ⊥
+Meeting all ms m = ⊥
 
 meeting_more : (all ms : List Move) (x m : Move) → Meeting all ms m → Meeting all (x ∷ ms) m
 meeting_more all ms x (Inner i j k c) h = (behind x ms (Offer i c) h.0, h.1)
-meeting_more all ms x (Offer i c) h = h
-meeting_more all ms x (Want i c) h = h
-meeting_more all ms x (Choose i k c) h = h
-meeting_more all ms x (Stopch i c) h = h
-meeting_more all ms x (Quiet i) h = h
+meeting_more all ms x m h = h
 
 abbrev pub Met : ℕ → ℕ → List Move → Move → Type 0
 Met i c all m = (j : ℕ) × (k : Option ℕ) × (m ≡ Inner i j k c) × Contains all (partner j k c)
@@ -271,51 +257,6 @@ listed inside all (Stopch i c ∷ ms) m h = this_or inside all ms (Stopch i c) m
 listed inside all (Inner i j k c ∷ ms) m h = this_or inside all ms (Inner i j k c) m h (listed inside all ms m)
 listed inside all (Quiet i ∷ ms) m h = this_or inside all ms (Quiet i) m h (listed inside all ms m)
 
--- an output's site is one of what remains
-output_site : {i c : ℕ} {a : Given} {r : Rest} → Stands (Output i c a) r → sites_rest r i ≡ true
-output_site {i} itself = grind (arith, nat_tests)
-output_site {i} (within_then {r = r} {ps = ps} s) = or_left (sites_rest r i) (sites_all ps i) (output_site s)
-output_site {i} (within_turns {r = r} {q = q} s) = or_left (sites_rest r i) (sites q i) (output_site s)
-output_site {i} (on_left {r = r} {q = q} s) = or_left (sites_rest r i) (sites_rest q i) (output_site s)
-output_site {i} (on_right {r = r} {q = q} s) = or_right (sites_rest r i) (sites_rest q i) (output_site s)
-
-either_none : {A : Type 0} (x y : Option A) → x ≡ None → y ≡ None → option_or x y ≡ None
-either_none x y h k = rw (h, k) refl
-
--- no output begins at a site that isn't there
-pub not_there : (i : ℕ) (r : Rest) (e : Store) → sites_rest r i ≡ false → output_at i r e ≡ None
-not_there i Done e h = refl
-not_there i (Stopped s) e h = refl
-not_there i (Fresh (SKIP s)) e h = refl
-not_there i (Fresh (STOP s)) e h = refl
-not_there i (Fresh (Assign s v a)) e h = refl
-not_there i (Fresh (Output s c a)) e h = let off : (i == s) ≡ false = grind (arith, nat_tests) in rw off refl
-not_there i (Fresh (Input s c v)) e h = refl
-not_there i (Fresh (StopChan s c)) e h = refl
-not_there i (Fresh (SEQ s ps)) e h = refl
-not_there i (Fresh (PAR s ps)) e h = refl
-not_there i (Fresh (IF s bs)) e h = refl
-not_there i (Fresh (WHILE s b p)) e h = refl
-not_there i (Fresh (COUNT s v a k p)) e h = refl
-not_there i (Fresh (ALT s gs)) e h = refl
-not_there i (Finishing s c) e h = refl
-not_there i (Getting s c v) e h = refl
-not_there i (Then r ps) e h = not_there i r e (or_false (sites_rest r i) (sites_all ps i) h).0
-not_there i (Turns r v b n p) e h = not_there i r e (or_false (sites_rest r i) (sites p i) h).0
-not_there i (Beside mine r q) e h =
-    let n = or_false (sites_rest r i) (sites_rest q i) h in
-    either_none (output_at i r e) (output_at i q e) (not_there i r e n.0) (not_there i q e n.1)
-
--- the output that stands at a site is the one that begins there
-output_is : {i c : ℕ} {a : Given} {r : Rest} (e : Store) (x : Datum) → Stands (Output i c a) r → OwnSites r → datum_of a e ≡ Some x → output_at i r e ≡ Some x
-output_is {i} e x itself o h = let on : (i == i) ≡ true = grind (arith, nat_tests) in rw on h
-output_is e x (within_then s) o h = output_is e x s o.0 h
-output_is e x (within_turns s) o h = output_is e x s o.0 h
-output_is {i} e x (on_left {q = q} s) o h = ap (λ y. option_or y (output_at i q e)) (output_is e x s o.1 h)
-output_is {i} e x (on_right {r = r} {q = q} s) o h =
-    let away : sites_rest r i ≡ false = not_true (sites_rest r i) (λ k. clash (output_site s) (o.0 i k)) in
-    ap (λ y. option_or y (output_at i q e)) (not_there i r e away) ∙ output_is e x s o.2 h
-
 -- what hasn't ended stays so in what it stands in
 abbrev pub Goes : Rest → Type 0
 Goes r = r ≡ Done → ⊥
@@ -341,10 +282,7 @@ beside_right mine r q g h = cc
 abbrev pub IsTaking : Move → Type 0
 IsTaking (Want i c) = Unit {0}
 IsTaking (Choose i k c) = Unit {0}
-IsTaking (Offer i c) = ⊥
-IsTaking (Stopch i c) = ⊥
-IsTaking (Inner i j k c) = ⊥
-IsTaking (Quiet i) = ⊥
+IsTaking m = ⊥
 
 own_then : (r : Rest) (ps : Procs) (e : Store) (w : Move) → Contains (own r e) w → Contains (own (then_on r ps) e) w
 own_then Done ps e w h = absurd (none w h)
@@ -397,30 +335,6 @@ began (in_right {r = r} {q = q} {q' = q'} {e = e} {mine = mine} st) =
         | inr l ↦ Contains-append_right (own r e) (own q' e) w (n.taking w t l)
       ]);
     }
-
-finish : (j d : ℕ) (e : Store) (i c : ℕ) → j ≡ i → d ≡ c → (q : Rest) × (f : Store) × Step (Finishing j d) e i action.Finish (Fin c ∷ []) q f
-finish j d e i c h k =
-    (Done, e, subst (λ y. Step (Finishing j d) e y action.Finish (Fin c ∷ []) Done e) h (subst (λ y. Step (Finishing j d) e j action.Finish (Fin y ∷ []) Done e) k does_finish))
-
-output_site_same : (j i d c : ℕ) → output j d ≡ output i c → j ≡ i
-output_site_same j i d c h = cc
-
-output_chan_same : (j i d c : ℕ) → output j d ≡ output i c → d ≡ c
-output_chan_same j i d c h = cc
-
--- an output that waits can be finished
-pub finishes : (r : Rest) (e : Store) (i c : ℕ) → Contains (waiting r) (output i c) → (q : Rest) × (f : Store) × Step r e i action.Finish (Fin c ∷ []) q f
-finishes Done e i c h = absurd (none (output i c) h)
-finishes (Stopped s) e i c h = absurd (none (output i c) h)
-finishes (Fresh p) e i c h = absurd (none (output i c) h)
-finishes (Finishing j d) e i c h = let same = only (output j d) (output i c) h in finish j d e i c (output_site_same j i d c same) (output_chan_same j i d c same)
-finishes (Getting j d v) e i c h = absurd (let same = only (input j d) (output i c) h in cc)
-finishes (Then r ps) e i c h = let n = finishes r e i c h in (then_on n.0 ps, n.1, in_then n.2)
-finishes (Turns r v b k p) e i c h = let n = finishes r e i c h in (turns_on n.0 v b k p, index_on n.0 v b k n.1, in_turns n.2)
-finishes (Beside mine r q) e i c h = elim (Contains-append_cases (waiting r) (waiting q) (output i c) h) [
-  | inl k ↦ let n = finishes r e i c k in (beside_on mine n.0 q, n.1, in_left n.2)
-  | inr k ↦ let n = finishes q e i c k in (beside_on mine r n.0, n.1, in_right n.2)
-]
 
 abbrev at : Rest → Store → State
 at r e = record { rest = r; store = e }
@@ -484,7 +398,7 @@ sends s i c o h =
     let l = lift stands (does_offer n.2.3) in
     record {
       value = n.2.1;
-      sent = ap (λ y. bytes_or_none (carried y)) (output_is s.store n.2.1 stands o n.2.3);
+      sent = ap (λ y. bytes_or_none (carried y)) (sent_value n.2.1 l.2 o refl);
       rest = l.0;
       store = l.1;
       step = l.2;
@@ -512,11 +426,7 @@ made s (Choose i j c) a o (inl k) = choose_made s i j c (came a) k
 made s (Offer i c) a o (inl k) = offer_made s i c a o k
 made s (Inner i j l c) a o (inl k) = absurd (own_begins s.rest s.store (Inner i j l c) k).2
 made s (Inner i j l c) a o (inr k) = inner_made s i j l c a o k.0 k.1
-made s (Quiet i) a o (inr k) = absurd k
-made s (Stopch i c) a o (inr k) = absurd k
-made s (Want i c) a o (inr k) = absurd k
-made s (Choose i j c) a o (inr k) = absurd k
-made s (Offer i c) a o (inr k) = absurd k
+made s m a o (inr k) = absurd k
 
 pub can_be_made : ListedMovesCanBeMade
 can_be_made s inside m a o h f = made s m a o (listed inside (own s.rest s.store) (own s.rest s.store) m h)
@@ -534,28 +444,6 @@ able_choose r e i k c None h =
     let n = own_begins r e (Choose i k c) h in
     let l = lift (subst (λ z. Stands z r) n.2.4 n.1) (waits_choose {s = i} {e = e} n.2.5 n.2.6 n.2.7) in
     ([], l.0, l.1, l.2)
-
-input_site : (j i d c : ℕ) → input j d ≡ input i c → j ≡ i
-input_site j i d c h = cc
-
-receive : (j d v : ℕ) (e : Store) (i c : ℕ) (m : List ℕ) → input j d ≡ input i c → Able (Getting j d v) e i (action.Message m)
-receive j d v e i c m h =
-    let site : j ≡ i = input_site j i d c h in
-    subst (λ y. Able (Getting j d v) e y (action.Message m)) site (In d (received (e v) m) ∷ [], Done, set e v (received (e v) m), gets refl)
-
--- an input that waits can have any message
-receives : (r : Rest) (e : Store) (i c : ℕ) (m : List ℕ) → Contains (waiting r) (input i c) → Able r e i (action.Message m)
-receives Done e i c m h = absurd (none (input i c) h)
-receives (Stopped s) e i c m h = absurd (none (input i c) h)
-receives (Fresh p) e i c m h = absurd (none (input i c) h)
-receives (Finishing j d) e i c m h = absurd (let same = only (output j d) (input i c) h in cc)
-receives (Getting j d v) e i c m h = receive j d v e i c m (only (input j d) (input i c) h)
-receives (Then r ps) e i c m h = let n = receives r e i c m h in (n.0, then_on n.1 ps, n.2, in_then n.3)
-receives (Turns r v b k p) e i c m h = let n = receives r e i c m h in (n.0, turns_on n.1 v b k p, index_on n.1 v b k n.2, in_turns n.3)
-receives (Beside mine r q) e i c m h = elim (Contains-append_cases (waiting r) (waiting q) (input i c) h) [
-  | inl k ↦ let n = receives r e i c m k in (n.0, beside_on mine n.1 q, n.2, in_left n.3)
-  | inr k ↦ let n = receives q e i c m k in (n.0, beside_on mine r n.1, n.2, in_right n.3)
-]
 
 -- what is listed and meets nothing can be done by its site
 pub able : (r : Rest) (e : Store) (m : Move) (a : Answer) → Contains (own r e) m → Able r e (site_of m) (action_for m a)
@@ -575,7 +463,7 @@ able r e (Inner i j k c) a h = absurd (own_begins r e (Inner i j k c) h).2
 -- a site that waits can go on
 pub able_on : (r : Rest) (e : Store) (i : ℕ) (m : Option (List ℕ)) → IsAwaited r i m → Able r e i (action_on m)
 able_on r e i None (c, h) = let n = finishes r e i c h in (Fin c ∷ [], n.0, n.1, n.2)
-able_on r e i (Some m) (c, h) = receives r e i c m h
+able_on r e i (Some m) (c, h) = let n = receives r e i c m h in (In c n.0 ∷ [], n.1, n.2, n.3)
 
 -- no site meets itself
 pub no_meeting : (r : Rest) (e : Store) (i j : ℕ) (k : Option ℕ) (c : ℕ) → Contains (own r e) (Inner i j k c) → ⊥

@@ -24,7 +24,8 @@ use Rattle.vc_process.specs.ProcessStep.{Meets}
 use Rattle.vc_occam.specs.Traces.{Comm, Out, Fin, In}
 use Rattle.vc_process.specs.Usage.{Set}
 use Rattle.vc_process.specs.Values.{Store}
-use Rattle.vc_occam.proofs.MoveActs.{one_waits, says, sends, waits_site}
+use Rattle.vc_occam.proofs.MoveActs.{one_waits, says, waits_site}
+use Rattle.vc_occam.proofs.Doers.{sent_value}
 use Rattle.vc_occam.proofs.Preservation.{doing_is_traced, doing_keeps_use}
 use Rattle.vc_process.proofs.Lists.{at_front, behind, front_or, none, only}
 use Rattle.vc_occam.proofs.Insertion.{is_inserted}
@@ -35,38 +36,24 @@ use Rattle.vc_occam.proofs.StepWaits.{step_waits}
 -- a move that is listed: one that needs no channel inside, or a meeting on one that is
 abbrev pub Joined : Set → List Move → List Move → Move → Type 0
 Joined inside all ms (Inner i j k c) = ((inside c ≡ true) × Contains ms (Offer i c) × Contains all (partner j k c)) ⊎ Contains ms (Inner i j k c)
-Joined inside all ms (Offer i c) = (is_outside inside (Offer i c) ≡ true) × Contains ms (Offer i c)
-Joined inside all ms (Want i c) = (is_outside inside (Want i c) ≡ true) × Contains ms (Want i c)
-Joined inside all ms (Choose i k c) = (is_outside inside (Choose i k c) ≡ true) × Contains ms (Choose i k c)
-Joined inside all ms (Stopch i c) = (is_outside inside (Stopch i c) ≡ true) × Contains ms (Stopch i c)
-Joined inside all ms (Quiet i) = (is_outside inside (Quiet i) ≡ true) × Contains ms (Quiet i)
+Joined inside all ms m = (is_outside inside m ≡ true) × Contains ms m
 
 module _ (inside : Set) (all : List Move) where
   joined_more : (ms : List Move) (x m : Move) → Joined inside all ms m → Joined inside all (x ∷ ms) m
   joined_more ms x (Inner i j k c) (inl h) = inl (h.0, behind x ms (Offer i c) h.1, h.2)
   joined_more ms x (Inner i j k c) (inr h) = inr (behind x ms (Inner i j k c) h)
-  joined_more ms x (Offer i c) h = (h.0, behind x ms (Offer i c) h.1)
-  joined_more ms x (Want i c) h = (h.0, behind x ms (Want i c) h.1)
-  joined_more ms x (Choose i k c) h = (h.0, behind x ms (Choose i k c) h.1)
-  joined_more ms x (Stopch i c) h = (h.0, behind x ms (Stopch i c) h.1)
-  joined_more ms x (Quiet i) h = (h.0, behind x ms (Quiet i) h.1)
+  joined_more ms x m h = (h.0, behind x ms m h.1)
 
   -- what one move comes to
   abbrev comes_to : Move → List Move
   comes_to (Offer i c) = if inside c then meetings i c all else (Offer i c ∷ [])
   comes_to (Want i c) = if inside c then [] else (Want i c ∷ [])
   comes_to (Choose i k c) = if inside c then [] else (Choose i k c ∷ [])
-  comes_to (Stopch i c) = Stopch i c ∷ []
-  comes_to (Inner i j k c) = Inner i j k c ∷ []
-  comes_to (Quiet i) = Quiet i ∷ []
+  comes_to m = m ∷ []
 
   one_and_rest : (x : Move) (ms : List Move) → joined inside all (x ∷ ms) ≡ comes_to x ++ joined inside all ms
   one_and_rest (Offer i c) ms = refl
-  one_and_rest (Want i c) ms = refl
-  one_and_rest (Choose i k c) ms = refl
-  one_and_rest (Stopch i c) ms = refl
-  one_and_rest (Inner i j k c) ms = refl
-  one_and_rest (Quiet i) ms = refl
+  one_and_rest m ms = refl
 
   offer_has : (b : Bool) (i c : ℕ) (ms : List Move) (m : Move) → inside c ≡ b → Contains (if b then meetings i c all else (Offer i c ∷ [])) m → Joined inside all (Offer i c ∷ ms) m
   offer_has true i c ms m e h =
@@ -110,9 +97,7 @@ module _ (inside : Set) (all : List Move) where
   one_itself (Offer i c) h = offer_alone (inside c) i c h
   one_itself (Want i c) h = unless_inside (inside c) (Want i c) h
   one_itself (Choose i k c) h = unless_inside (inside c) (Choose i k c) h
-  one_itself (Stopch i c) h = at_front (Stopch i c) []
-  one_itself (Inner i j k c) h = at_front (Inner i j k c) []
-  one_itself (Quiet i) h = at_front (Quiet i) []
+  one_itself m h = at_front m []
 
   met_first : (i j : ℕ) (k : Option ℕ) (c : ℕ) (ms : List Move) → Contains (meetings i c (partner j k c ∷ ms)) (Inner i j k c)
   met_first i j None c ms =
@@ -123,12 +108,9 @@ module _ (inside : Set) (all : List Move) where
       subst (λ b. Contains ((if b then (Inner i j (Some k) c ∷ []) else []) ++ meetings i c ms) (Inner i j (Some k) c)) (sym on) (at_front (Inner i j (Some k) c) (meetings i c ms))
 
   met_later : (i c : ℕ) (x : Move) (ms : List Move) (m : Move) → Contains (meetings i c ms) m → Contains (meetings i c (x ∷ ms)) m
-  met_later i c (Offer j d) ms m h = h
   met_later i c (Want j d) ms m h = Contains-append_right (if c == d then (Inner i j None c ∷ []) else []) (meetings i c ms) m h
   met_later i c (Choose j k d) ms m h = Contains-append_right (if c == d then (Inner i j (Some k) c ∷ []) else []) (meetings i c ms) m h
-  met_later i c (Stopch j d) ms m h = h
-  met_later i c (Inner j n k d) ms m h = h
-  met_later i c (Quiet j) ms m h = h
+  met_later i c x ms m h = h
 
   met_there : (i j : ℕ) (k : Option ℕ) (c : ℕ) (ms : List Move) → Contains ms (partner j k c) → Contains (meetings i c ms) (Inner i j k c)
   met_there i j k c [] h = absurd (none (partner j k c) h)
@@ -223,7 +205,7 @@ took : {r q s : Rest} {e f g : Store} (i j : ℕ) (k : Option ℕ) (c : ℕ) (a 
 took {r} {q} {s} {e} {f} {g} i j k c a o fits (ks, st) (ls, tk) =
     let n = says st in
     let x = n.0 in
-    let out : output_at i r e ≡ Some x = sends x st o n.1 in
+    let out : output_at i r e ≡ Some x = sent_value x st o n.1 in
     let came_is : came a ≡ Some (message x) = fits ∙ ap carried out in
     let m = bytes_or_none (came a) in
     let same : m ≡ message x = ap bytes_or_none came_is in
@@ -256,10 +238,7 @@ has_met {r} {q} {s} {t} {e} {f} {g} {h} i j k c a o fits st tk (ms, fin) =
 pub as_partner : (ms : List Move) (i c : ℕ) (m : Move) → CanBegin ms i c m → (j : ℕ) × (k : Option ℕ) × (m ≡ partner j k c) × Contains ms (Offer i c) × Contains ms (partner j k c)
 as_partner ms i c (Want j d) h = (j, None, ap (Want j) h.0, h.1, subst (λ x. Contains ms (Want j x)) h.0 h.2)
 as_partner ms i c (Choose j k d) h = (j, Some k, ap (Choose j k) h.0, h.1, subst (λ x. Contains ms (Choose j k x)) h.0 h.2)
-as_partner ms i c (Offer j d) h = absurd h
-as_partner ms i c (Stopch j d) h = absurd h
-as_partner ms i c (Inner j n k d) h = absurd h
-as_partner ms i c (Quiet j) h = absurd h
+as_partner ms i c m h = absurd h
 
 pub can_begin : (inside : Set) (ms : List Move) (i j : ℕ) (k : Option ℕ) (c : ℕ) → CanMeet inside ms i j k c → CanBegin ms i c (partner j k c)
 can_begin inside ms i j None c h = (refl, h.1, h.2)

@@ -11,14 +11,13 @@ use Rattle.vc_occam.specs.SiteActions.{SiteAction}
 use Rattle.vc_occam.specs.SiteActions as action
 use Rattle.vc_occam.specs.declared.moves.Move.{Move}
 use Rattle.vc_occam.specs.declared.moves.Move.TheVariants.{Offer, Want, Choose, Stopch, Inner, Quiet}
-use Rattle.vc_process.specs.Syntax.{Proc, STOP}
 use Rattle.vc_process.specs.Messages.{message}
 use Rattle.vc_occam.specs.Traces.{Comm, Out, Fin, In, Stp}
 use Rattle.vc_process.specs.Values.{Store}
-use Rattle.vc_process.specs.Usage.{just, nothing}
+use Rattle.vc_process.specs.Usage.{just}
 use Rattle.vc_occam.specs.First.{own}
 use Rattle.vc_occam.specs.InUse.{UsesLawfully}
-use Rattle.vc_occam.specs.Remains.{Rest, Done, Stopped, Fresh, Finishing, Getting, Then, Turns, Beside, Step, does_skip, does_empty_seq, does_empty_par, does_assign, faults_assign, faults_out, does_if, does_turn, does_leave, faults_while, does_count, does_count_none, faults_count, does_offer, does_finish, does_input, waits_input, gets, does_stop, does_choose, waits_choose, in_then, in_turns, in_left, in_right}
+use Rattle.vc_occam.specs.Remains.{Rest, Finishing, Getting, Then, Turns, Beside, Step, does_offer, does_finish, does_input, gets, does_choose, in_then, in_turns, in_left, in_right}
 use Rattle.vc_occam.specs.declared.waits.Waits.{Waits}
 use Rattle.vc_occam.specs.declared.waits.Waits.TheVariants as waits
 use Rattle.vc_occam.specs.Private.Frames.{Did, first_waits, waits_at, waits_there}
@@ -32,84 +31,34 @@ use Rattle.vc_occam.proofs.Preservation.{lawful}
 use Rattle.vc_occam.proofs.Law.{law}
 use Rattle.vc_process.proofs.Lists.{at_front, behind, front_or, only, none}
 use Rattle.vc_occam.proofs.Insertion.{is_inserted}
-use Rattle.vc_occam.proofs.Made.{no_meeting, not_there}
-use Rattle.vc_occam.proofs.Doers.{doers, step_site}
+use Rattle.vc_occam.proofs.Made.{no_meeting}
+use Rattle.vc_occam.proofs.Doers.{sent_value}
 use Rattle.vc_occam.proofs.Places.{itself}
-use Rattle.vc_occam.proofs.Sites.{Within, clash, either, not_true, within_none}
+use Rattle.vc_occam.proofs.Sites.{clash}
 use Rattle.vc_occam.proofs.Stores.{or_left, or_right}
 use Rattle.vc_occam.proofs.StepWaits.{step_waits}
 
--- what may do something is one of the sites of what remains
-fresh_doers : (p : Proc) → Within (doers (Fresh p)) (sites p)
-fresh_doers (STOP i) = within_none (just i)
-fresh_doers p = λ k e. e
-
-pub doers_rest : (r : Rest) → Within (doers r) (sites_rest r)
-doers_rest Done = within_none nothing
-doers_rest (Stopped i) = within_none nothing
-doers_rest (Fresh p) = fresh_doers p
-doers_rest (Finishing s c) = λ k e. e
-doers_rest (Getting s c v) = λ k e. e
-doers_rest (Then r ps) = λ k e. or_left (sites_rest r k) (sites_all ps k) (doers_rest r k e)
-doers_rest (Turns r v b n p) = λ k e. or_left (sites_rest r k) (sites p k) (doers_rest r k e)
-doers_rest (Beside mine r q) = λ k e. elim (either (doers r k) (doers q k) e) [
-  | inl h ↦ or_left (sites_rest r k) (sites_rest q k) (doers_rest r k h)
-  | inr h ↦ or_right (sites_rest r k) (sites_rest q k) (doers_rest q k h)
-]
-
 -- an action's communications
 abbrev pub Says : SiteAction → List Comm → Type 0
-Says action.Quiet ks = ks ≡ []
 Says (action.Offer c) ks = (x : Datum) × (ks ≡ Out c x ∷ [])
 Says action.Finish ks = (c : ℕ) × (ks ≡ Fin c ∷ [])
-Says (action.Want c None) ks = ks ≡ []
 Says (action.Want c (Some m)) ks = (x : Datum) × (ks ≡ In c x ∷ [])
-Says (action.Choose k c None) ks = ks ≡ []
 Says (action.Choose k c (Some m)) ks = (x : Datum) × (ks ≡ In c x ∷ [])
 Says (action.Message m) ks = (c : ℕ) × (x : Datum) × (ks ≡ In c x ∷ [])
 Says (action.StopChannel c) ks = ks ≡ Stp c ∷ []
+Says d ks = ks ≡ []
 
 pub says : {r r' : Rest} {e e' : Store} {i : ℕ} {d : SiteAction} {m : List Comm} → Step r e i d m r' e' → Says d m
-says does_skip = refl
-says does_empty_seq = refl
-says does_empty_par = refl
-says (does_assign h) = refl
-says (faults_assign h) = refl
-says (faults_out h) = refl
-says does_if = refl
-says (does_turn h) = refl
-says (does_leave h) = refl
-says (faults_while h) = refl
-says (does_count h) = refl
-says (does_count_none h) = refl
-says (faults_count h) = refl
 says (does_offer {x = x} h) = (x, refl)
 says (does_finish {c = c}) = (c, refl)
 says (does_input {x = x} h) = (x, refl)
-says waits_input = refl
 says (gets {c = c} {x = x} h) = (c, x, refl)
-says does_stop = refl
 says (does_choose {x = x} dec g h k) = (x, refl)
-says (waits_choose dec g h) = refl
 says (in_then st) = says st
 says (in_turns st) = says st
 says (in_left st) = says st
 says (in_right st) = says st
-
-out_same : (c d : ℕ) (x y : Datum) → Out c x ∷ [] ≡ Out d y ∷ [] → x ≡ y
-out_same c d x y h = cc
-
--- the value that an output sends is the one that stands at its site
-pub sends : {r r' : Rest} {e e' : Store} {i c : ℕ} {m : List Comm} (x : Datum) → Step r e i (action.Offer c) m r' e' → OwnSites r → m ≡ Out c x ∷ [] → output_at i r e ≡ Some x
-sends x (does_offer {s = s} {c = c} {x = y} k) o q =
-    let on : (s == s) ≡ true = grind (arith, nat_tests) in
-    rw on (k ∙ ap Some (out_same c c y x q))
-sends x (in_then st) o q = sends x st o.0 q
-sends x (in_turns st) o q = sends x st o.0 q
-sends x (in_left {i = i} {q = q} {e = e} st) o h = ap (λ y. option_or y (output_at i q e)) (sends x st o.1 h)
-sends x (in_right {i = i} {r = r} {q = q} {e = e} st) o h =
-    let away : sites_rest r i ≡ false = not_true (sites_rest r i) (λ k. clash (doers_rest q i (step_site st)) (o.0 i k)) in
-    ap (λ y. option_or y (output_at i q e)) (not_there i r e away) ∙ sends x st o.2 h
+says st = refl
 
 traced : (s s' : State) (i : ℕ) (d : SiteAction) (ks : List Comm) → UsesLawfully s.rest → StepsTo s i d ks s' → IsTraced s ks s'
 traced s s' i d ks u st = λ t x k. law st (lawful s.rest u) k
@@ -126,7 +75,7 @@ chose s s' i k c u (Some m) ks st = let n = says st in (ks, (n.0, n.1, st), trac
 pub acts : (s s' : State) (m : Move) (a : Answer) → OwnSites s.rest → UsesLawfully s.rest → IsAlone m → Did s.rest s.store (site_of m) (one (action_for m a)) s'.rest s'.store → Acts s (doing m (sent_by s m) a) s'
 acts s s' (Offer i c) a o u al (ks, st) =
     let n = says st in
-    let sent : bytes_or_none (carried (output_at i s.rest s.store)) ≡ message n.0 = ap (λ y. bytes_or_none (carried y)) (sends n.0 st o n.1) in
+    let sent : bytes_or_none (carried (output_at i s.rest s.store)) ≡ message n.0 = ap (λ y. bytes_or_none (carried y)) (sent_value n.0 st o n.1) in
     (ks, (n.0, sent, n.1, st), traced s s' i (action.Offer c) ks u st)
 acts s s' (Want i c) a o u al (ks, st) = wanted s s' i c u (came a) ks st
 acts s s' (Choose i k c) a o u al (ks, st) = chose s s' i k c u (came a) ks st
@@ -136,12 +85,8 @@ acts s s' (Inner i j k c) a o u al st = absurd al
 
 -- one site's own move is no meeting
 pub own_alone : (r : Rest) (e : Store) (m : Move) → Contains (own r e) m → IsAlone m
-own_alone r e (Offer i c) h = tt
-own_alone r e (Want i c) h = tt
-own_alone r e (Choose i k c) h = tt
-own_alone r e (Stopch i c) h = tt
-own_alone r e (Quiet i) h = tt
 own_alone r e (Inner i j k c) h = absurd (no_meeting r e i j k c h)
+own_alone r e m h = tt
 
 -- the site that waits
 unfoldable pub waits_site : Waiting → ℕ
@@ -150,9 +95,6 @@ waits_site (input i c) = i
 
 its_site : (r : Rest) (w : Waiting) → Contains (waiting r) w → sites_rest r (waits_site w) ≡ true
 unfolding waits_site
-its_site Done w h = absurd (none w h)
-its_site (Stopped s) w h = absurd (none w h)
-its_site (Fresh p) w h = absurd (none w h)
 its_site (Finishing i c) w h = subst (λ x. just i (waits_site x) ≡ true) (only (output i c) w h) (itself i)
 its_site (Getting i c v) w h = subst (λ x. just i (waits_site x) ≡ true) (only (input i c) w h) (itself i)
 its_site (Then r ps) w h = or_left (sites_rest r (waits_site w)) (sites_all ps (waits_site w)) (its_site r w h)
@@ -161,12 +103,10 @@ its_site (Beside mine r q) w h = elim (Contains-append_cases (waiting r) (waitin
   | inl k ↦ or_left (sites_rest r (waits_site w)) (sites_rest q (waits_site w)) (its_site r w k)
   | inr k ↦ or_right (sites_rest r (waits_site w)) (sites_rest q (waits_site w)) (its_site q w k)
 ]
+its_site r w h = absurd (none w h)
 
 -- one thing waits at a site
 pub one_waits : (r : Rest) (w x : Waiting) → OwnSites r → waits_site w ≡ waits_site x → Contains (waiting r) w → Contains (waiting r) x → w ≡ x
-one_waits Done w x o e a b = absurd (none w a)
-one_waits (Stopped s) w x o e a b = absurd (none w a)
-one_waits (Fresh p) w x o e a b = absurd (none w a)
 one_waits (Finishing i c) w x o e a b = sym (only (output i c) w a) ∙ only (output i c) x b
 one_waits (Getting i c v) w x o e a b = sym (only (input i c) w a) ∙ only (input i c) x b
 one_waits (Then r ps) w x o e a b = one_waits r w x o.0 e a b
@@ -181,6 +121,7 @@ one_waits (Beside mine r q) w x o e a b = elim (Contains-append_cases (waiting r
     | inr h ↦ one_waits q w x o.2 e g h
   ]
 ]
+one_waits r w x o e a b = absurd (none w a)
 
 output_chan : (i j c d : ℕ) → output i c ≡ output j d → c ≡ d
 output_chan i j c d h = cc

@@ -7,7 +7,7 @@ use Rattle.std.specs.Prelude.{◌==◌, if◌then◌else◌, is_some}
 use Rattle.vc_occam.specs.declared.answer.Answer.{Answer}
 use Rattle.vc_occam.specs.SiteActions as action
 use Rattle.vc_occam.specs.declared.moves.Move.{Move}
-use Rattle.vc_occam.specs.declared.moves.Move.TheVariants.{Offer, Want, Choose, Stopch, Inner, Quiet}
+use Rattle.vc_occam.specs.declared.moves.Move.TheVariants.{Offer, Want, Quiet}
 use Rattle.vc_process.specs.Syntax.{Proc, Procs, Output}
 use Rattle.vc_process.specs.Usage.{Set}
 use Rattle.vc_process.specs.Values.{Store}
@@ -19,9 +19,9 @@ use Rattle.vc_occam.specs.States.{State, Acts, came, doing}
 use Rattle.vc_process.specs.ProcessStep.{Wants}
 use Rattle.vc_occam.specs.Traces.{Comm}
 use Rattle.vc_process.proofs.Lists.{alone, at_front, behind, front_or, none}
-use Rattle.vc_occam.proofs.MoveActs.{doers_rest}
 use Rattle.vc_occam.proofs.SideBySide.{beside_own}
-use Rattle.vc_occam.proofs.Doers.{mover, step_site}
+use Rattle.vc_occam.proofs.Doers.{doers_rest, step_site}
+use Rattle.vc_occam.proofs.PartOfSite.{mover}
 use Rattle.vc_occam.proofs.Sites.{clash}
 
 -- the first of two lists has a move at the site
@@ -117,7 +117,4 @@ stays s s' (Want i c) sent a o h w = on (came a) w h
     on : (k : Option (List ℕ)) → k ≡ None → Acts s (Wants i c k) s' → own s'.rest s'.store ≡ without i (own s.rest s.store)
     on None q h = let n = want_waits h.1.1 o in ap (own s'.rest) n.2 ∙ n.4
     on (Some x) q h = absurd cc
-stays s s' (Choose i k c) sent a o h w = absurd w
-stays s s' (Stopch i c) sent a o h w = absurd w
-stays s s' (Inner i j k c) sent a o h w = absurd w
-stays s s' (Quiet i) sent a o h w = absurd w
+stays s s' m sent a o h w = absurd w

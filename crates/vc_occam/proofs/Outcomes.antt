@@ -7,16 +7,15 @@ use Rattle.vc_occam.specs.declared.moves.Move.TheVariants as move
 use Rattle.vc_occam.specs.declared.outcome.Outcome.{Outcome}
 use Rattle.vc_occam.specs.declared.outcome.Outcome.TheVariants as outcome
 use Rattle.vc_process.specs.declared.datum.Datum.{Datum}
-use Rattle.vc_process.specs.Syntax.{Whole, Bytes, Proc, SKIP, STOP, Assign, Output, Input, StopChan, SEQ, PAR, IF, WHILE, COUNT, ALT, no_parts, part}
+use Rattle.vc_process.specs.Syntax.{Whole, Bytes, Proc, SKIP, STOP, Assign, SEQ, PAR, IF, WHILE, COUNT, no_parts}
 use Rattle.vc_process.specs.Values.{Store}
 use Rattle.vc_occam.specs.First.{own}
 use Rattle.vc_occam.specs.Frames.{View, fresh_outcome, left_by, outcome_of, same_outcome, task_view, unless_ended}
 use Rattle.vc_occam.specs.Private.Frames.{assigned_at}
-use Rattle.vc_occam.specs.Remains.{Rest, Done, Stopped, Fresh, Finishing, Getting, Then, Turns, Beside}
+use Rattle.vc_occam.specs.Remains.{Rest, Done, Fresh, Then, Turns, Beside}
 
 pub same_is : (o q : Outcome) → same_outcome o q ≡ true → o ≡ q
 same_is outcome.Ended outcome.Ended h = refl
-same_is outcome.Ended outcome.Nothing h = absurd cc
 same_is outcome.Ended (outcome.Quiet j) h = absurd cc
 same_is outcome.Ended outcome.Other h = absurd cc
 same_is outcome.Nothing outcome.Ended h = absurd cc
@@ -24,13 +23,12 @@ same_is outcome.Nothing outcome.Nothing h = refl
 same_is outcome.Nothing (outcome.Quiet j) h = absurd cc
 same_is outcome.Nothing outcome.Other h = absurd cc
 same_is (outcome.Quiet i) outcome.Ended h = absurd cc
-same_is (outcome.Quiet i) outcome.Nothing h = absurd cc
 same_is (outcome.Quiet i) (outcome.Quiet j) h = let e : i ≡ j = grind (arith, nat_tests) in cc
 same_is (outcome.Quiet i) outcome.Other h = absurd cc
 same_is outcome.Other outcome.Ended h = absurd cc
-same_is outcome.Other outcome.Nothing h = absurd cc
 same_is outcome.Other (outcome.Quiet j) h = absurd cc
 same_is outcome.Other outcome.Other h = refl
+same_is o outcome.Nothing h = absurd cc
 
 unless_nothing : (o : Outcome) → unless_ended o ≡ outcome.Nothing → o ≡ outcome.Nothing
 unless_nothing outcome.Ended h = absurd cc
@@ -40,95 +38,57 @@ unless_nothing outcome.Other h = h
 
 unless_quiet : (o : Outcome) (i : ℕ) → unless_ended o ≡ outcome.Quiet i → o ≡ outcome.Quiet i
 unless_quiet outcome.Ended i h = absurd cc
-unless_quiet outcome.Nothing i h = h
-unless_quiet (outcome.Quiet j) i h = h
-unless_quiet outcome.Other i h = h
+unless_quiet o i h = h
 
 fresh_nothing : (p : Proc) (e : Store) → fresh_outcome p ≡ outcome.Nothing → own (Fresh p) e ≡ []
-fresh_nothing (SKIP i) e h = absurd cc
 fresh_nothing (STOP i) e h = refl
 fresh_nothing (Assign i v (Whole a)) e h = absurd cc
-fresh_nothing (Assign i v (Bytes a)) e h = absurd cc
-fresh_nothing (Output i c a) e h = absurd cc
-fresh_nothing (Input i c v) e h = absurd cc
-fresh_nothing (StopChan i c) e h = absurd cc
 fresh_nothing (SEQ i no_parts) e h = absurd cc
-fresh_nothing (SEQ i (part p ps)) e h = absurd cc
 fresh_nothing (PAR i no_parts) e h = absurd cc
-fresh_nothing (PAR i (part p ps)) e h = absurd cc
-fresh_nothing (IF i bs) e h = absurd cc
-fresh_nothing (WHILE i b p) e h = absurd cc
-fresh_nothing (COUNT i v a n p) e h = absurd cc
-fresh_nothing (ALT i gs) e h = absurd cc
+fresh_nothing p e h = absurd cc
 
 -- what comes to nothing has no move
 pub nothing_own : (r : Rest) (e : Store) → outcome_of r ≡ outcome.Nothing → own r e ≡ []
 nothing_own Done e h = absurd cc
-nothing_own (Stopped i) e h = refl
 nothing_own (Fresh p) e h = fresh_nothing p e h
-nothing_own (Finishing i c) e h = refl
-nothing_own (Getting i c v) e h = refl
 nothing_own (Then r ps) e h = nothing_own r e (unless_nothing (outcome_of r) h)
 nothing_own (Turns r v b n p) e h = nothing_own r e (unless_nothing (outcome_of r) h)
 nothing_own (Beside mine r q) e h = absurd cc
+nothing_own r e h = refl
 
 fresh_quiet : (p : Proc) (i : ℕ) (e : Store) → fresh_outcome p ≡ outcome.Quiet i → own (Fresh p) e ≡ move.Quiet i ∷ []
 fresh_quiet (SKIP j) i e h = cc
-fresh_quiet (STOP j) i e h = absurd cc
 fresh_quiet (Assign j v (Whole a)) i e h = cc
-fresh_quiet (Assign j v (Bytes a)) i e h = absurd cc
-fresh_quiet (Output j c a) i e h = absurd cc
-fresh_quiet (Input j c v) i e h = absurd cc
-fresh_quiet (StopChan j c) i e h = absurd cc
 fresh_quiet (SEQ j no_parts) i e h = cc
-fresh_quiet (SEQ j (part p ps)) i e h = absurd cc
 fresh_quiet (PAR j no_parts) i e h = cc
-fresh_quiet (PAR j (part p ps)) i e h = absurd cc
 fresh_quiet (IF j bs) i e h = cc
 fresh_quiet (WHILE j b p) i e h = cc
 fresh_quiet (COUNT j v a n p) i e h = cc
-fresh_quiet (ALT j gs) i e h = absurd cc
+fresh_quiet p i e h = absurd cc
 
 -- what comes to a quiet step has this move alone
 pub quiet_own : (r : Rest) (i : ℕ) (e : Store) → outcome_of r ≡ outcome.Quiet i → own r e ≡ move.Quiet i ∷ []
-quiet_own Done i e h = absurd cc
-quiet_own (Stopped j) i e h = absurd cc
 quiet_own (Fresh p) i e h = fresh_quiet p i e h
-quiet_own (Finishing j c) i e h = absurd cc
-quiet_own (Getting j c v) i e h = absurd cc
 quiet_own (Then r ps) i e h = quiet_own r i e (unless_quiet (outcome_of r) i h)
 quiet_own (Turns r v b n p) i e h = quiet_own r i e (unless_quiet (outcome_of r) i h)
-quiet_own (Beside mine r q) i e h = absurd cc
+quiet_own r i e h = absurd cc
 
 none_either : (b : Bool) (x : Option Datum) → x ≡ None → (if b then x else None) ≡ None
 none_either true x h = h
 none_either false x h = refl
 
 fresh_assigned : (j : ℕ) (p : Proc) (i : ℕ) (e : Store) → fresh_outcome p ≡ outcome.Quiet i → assigned_at j (Fresh p) e ≡ None
-fresh_assigned j (SKIP k) i e h = refl
-fresh_assigned j (STOP k) i e h = refl
 fresh_assigned j (Assign k v (Whole a)) i e h = none_either (j == k) None refl
 fresh_assigned j (Assign k v (Bytes a)) i e h = absurd cc
-fresh_assigned j (Output k c a) i e h = refl
-fresh_assigned j (Input k c v) i e h = refl
-fresh_assigned j (StopChan k c) i e h = refl
-fresh_assigned j (SEQ k ps) i e h = refl
-fresh_assigned j (PAR k ps) i e h = refl
-fresh_assigned j (IF k bs) i e h = refl
-fresh_assigned j (WHILE k b p) i e h = refl
-fresh_assigned j (COUNT k v a n p) i e h = refl
-fresh_assigned j (ALT k gs) i e h = refl
+fresh_assigned j p i e h = refl
 
 -- and it assigns no bytes
 pub quiet_assigned : (j : ℕ) (r : Rest) (i : ℕ) (e : Store) → outcome_of r ≡ outcome.Quiet i → assigned_at j r e ≡ None
-quiet_assigned j Done i e h = refl
-quiet_assigned j (Stopped k) i e h = refl
 quiet_assigned j (Fresh p) i e h = fresh_assigned j p i e h
-quiet_assigned j (Finishing k c) i e h = refl
-quiet_assigned j (Getting k c v) i e h = refl
 quiet_assigned j (Then r ps) i e h = quiet_assigned j r i e (unless_quiet (outcome_of r) i h)
 quiet_assigned j (Turns r v b n p) i e h = quiet_assigned j r i e (unless_quiet (outcome_of r) i h)
 quiet_assigned j (Beside mine r q) i e h = absurd cc
+quiet_assigned j r i e h = refl
 
 -- what a process that goes on by itself begins with is true of what remains of it
 pub task_outcome : (t : Task View) → (task_view t).sound ≡ true → outcome_of (task_view t).rest ≡ t.begins

@@ -58,24 +58,7 @@ frame_is_own f h = let o = out-Frame f in subst (λ (v : View). OwnRest o.site v
 -- the site of the frame does it
 pub own_does : (i : ℕ) (r : Rest) (e : Store) (s : ℕ) (d : SiteAction) → OwnRest i r → Able r e s d → s ≡ i
 own_does i r e s d (fresh h) (ks, q, f, does_skip) = h
-own_does i r e s d (fresh h) (ks, q, f, does_empty_seq) = h
-own_does i r e s d (fresh h) (ks, q, f, does_empty_par) = h
-own_does i r e s d (fresh h) (ks, q, f, does_assign g) = h
-own_does i r e s d (fresh h) (ks, q, f, faults_assign g) = h
-own_does i r e s d (fresh h) (ks, q, f, faults_out g) = h
-own_does i r e s d (fresh h) (ks, q, f, does_if) = h
-own_does i r e s d (fresh h) (ks, q, f, does_turn g) = h
-own_does i r e s d (fresh h) (ks, q, f, does_leave g) = h
-own_does i r e s d (fresh h) (ks, q, f, faults_while g) = h
-own_does i r e s d (fresh h) (ks, q, f, does_count g) = h
-own_does i r e s d (fresh h) (ks, q, f, does_count_none g) = h
-own_does i r e s d (fresh h) (ks, q, f, faults_count g) = h
-own_does i r e s d (fresh h) (ks, q, f, does_offer g) = h
-own_does i r e s d (fresh h) (ks, q, f, does_input g) = h
-own_does i r e s d (fresh h) (ks, q, f, waits_input) = h
-own_does i r e s d (fresh h) (ks, q, f, does_stop) = h
-own_does i r e s d (fresh h) (ks, q, f, does_choose dec at holds g) = h
-own_does i r e s d (fresh h) (ks, q, f, waits_choose dec at holds) = h
+own_does i r e s d (fresh h) (ks, q, f, st) = h
 own_does i r e s d finishing (ks, q, f, does_finish) = refl
 own_does i r e s d getting (ks, q, f, gets g) = refl
 own_does i r e s d taken (ks, q, f, in_then (gets g)) = refl
@@ -86,26 +69,17 @@ own_does i r e s d stopped (ks, q, f, st) = elim st [ ]
 pub finish_did : (i : ℕ) (r : Rest) (e : Store) (s : ℕ) → OwnRest i r → Able r e s action.Finish → Did r e s (one action.Finish) Done e
 finish_did i r e s finishing (ks, q, f, does_finish) = (ks, does_finish)
 finish_did i r e s taken (ks, q, f, in_then st) = elim st [ ]
-finish_did i r e s (fresh h) (ks, q, f, st) = elim st [ ]
-finish_did i r e s getting (ks, q, f, st) = elim st [ ]
-finish_did i r e s halted (ks, q, f, st) = elim st [ ]
-finish_did i r e s stopped (ks, q, f, st) = elim st [ ]
+finish_did i r e s x (ks, q, f, st) = elim st [ ]
 
 pub whole_did : (i : ℕ) (r : Rest) (e : Store) (s c : ℕ) → OwnRest i r → Able r e s (action.Offer c) → Did r e s (whole_output c) Done e
 whole_did i r e s c (fresh h) (ks, q, f, does_offer g) = (ks, _, _, _, does_offer g, does_finish)
 whole_did i r e s c taken (ks, q, f, in_then st) = elim st [ ]
-whole_did i r e s c finishing (ks, q, f, st) = elim st [ ]
-whole_did i r e s c getting (ks, q, f, st) = elim st [ ]
-whole_did i r e s c halted (ks, q, f, st) = elim st [ ]
-whole_did i r e s c stopped (ks, q, f, st) = elim st [ ]
+whole_did i r e s c x (ks, q, f, st) = elim st [ ]
 
 pub stop_did : (i : ℕ) (r : Rest) (e : Store) (s c : ℕ) → OwnRest i r → Able r e s (action.StopChannel c) → Did r e s (one (action.StopChannel c)) Done e
 stop_did i r e s c (fresh h) (ks, q, f, does_stop) = (ks, does_stop)
 stop_did i r e s c taken (ks, q, f, in_then st) = elim st [ ]
-stop_did i r e s c finishing (ks, q, f, st) = elim st [ ]
-stop_did i r e s c getting (ks, q, f, st) = elim st [ ]
-stop_did i r e s c halted (ks, q, f, st) = elim st [ ]
-stop_did i r e s c stopped (ks, q, f, st) = elim st [ ]
+stop_did i r e s c x (ks, q, f, st) = elim st [ ]
 
 -- the constructs that communicate
 pub data Doer : SiteAction → Construct Frame → Type 0 where

@@ -1,5 +1,5 @@
 -- How an IF, an ALT or a loop takes one of its parts.
-use Rattle.std.proofs.Common.{◌≡◌, ◌≢◌, ℕ, zero, suc, ℤ, ◌+◌, ◌<◌, ◌≤◌, ◌^◌, Bool, true, false, refl, ap, sym, ◌∙◌, subst, List, [], ◌∷◌, map, length, get_or, set, arith, Option, Some, None}
+use Rattle.std.proofs.Common.{◌≡◌, ◌≢◌, ℕ, zero, suc, ℤ, ◌+◌, ◌<◌, ◌≤◌, ◌^◌, Bool, true, false, refl, ap, sym, ◌∙◌, subst, List, [], ◌∷◌, map, length, set, arith, Option, Some, None}
 use Rattle.std.specs.Prelude.{pos, negsuc, ◌+ℤ◌, ◌-ℤ◌, int_lt, nat_lt, slice_get, if◌then◌else◌}
 use Rattle.std.proofs.lemmas.Bool.{and_parts}
 use Rattle.std.proofs.lemmas.Bool.Decides.{nat_tests}
@@ -22,12 +22,6 @@ use Rattle.vc_occam.specs.Frames.{View, all_sound, begun, bodies, branches_of, b
 use Rattle.vc_occam.specs.Private.Frames.{Acted, HasTurned, chosen_from, count_turn, place_on, seen_branch, turn_to}
 use Rattle.vc_occam.proofs.Bodies.{branch_rest, branch_sound, same_branches, with_body}
 use Rattle.vc_occam.proofs.Endings.{begin_goes, left_same, unless_goes}
-
--- an element of a list, as what it stands for
-pub map_get : {A B : Type 0} (m : A → B) (xs : List A) (k : ℕ) (x : A) → k < length xs → x ≡ get_or xs k x → slice_get (map m xs) k ≡ Some (m x)
-map_get m [] k x l h = absurd (omega arith)
-map_get m (y ∷ xs) zero x l h = ap (λ z. Some (m z)) (sym h)
-map_get m (y ∷ xs) (suc k) x l h = map_get m xs k x (omega arith) h
 
 -- what began goes on, as it is
 pub begun_outcome : (p : Proc) (o : Outcome) → o ≡ outcome_of (begin p) → left_by o (begin p) ≡ begin p

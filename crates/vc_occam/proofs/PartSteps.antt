@@ -13,12 +13,12 @@ use Rattle.vc_process.specs.Syntax.{SEQ, Procs, no_parts, part}
 use Rattle.vc_process.specs.Usage.{changes, changes_all}
 use Rattle.vc_process.specs.Terms.{store}
 use Rattle.vc_process.specs.Values.{Store}
-use Rattle.vc_occam.specs.Traces.{Comm}
-use Rattle.vc_occam.specs.Remains.{Rest, Done, Stopped, Then, and_then, begin, then_on, Step, in_then}
+use Rattle.vc_occam.specs.Remains.{Rest, Done, Stopped, Then, and_then, begin, then_on, in_then}
 use Rattle.vc_occam.specs.Frames.{Shape, View, all_sound, begun, follow, is_sound, left_by, outcome_of, plans_of, rest_of, seq, view_of}
 use Rattle.vc_occam.specs.Private.Frames.{Able, CanGo, Did, HasNext, Went, assigned_at, has_ended, unstopped}
 use Rattle.vc_occam.specs.Private.Sites.{InPreorder, PartsInPreorder}
-use Rattle.vc_occam.proofs.Endings.{and_then_outcome, begin_goes, does_go, left_goes, left_ended, left_same, then_goes, unless_goes}
+use Rattle.vc_occam.proofs.Endings.{and_then_outcome, begin_goes, goes_on, left_goes, left_ended, left_same, unless_goes}
+use Rattle.vc_occam.proofs.Lifting.{then_is, then_steps}
 use Rattle.vc_occam.proofs.Stores.{or_left, or_right}
 
 -- what can do something has not been stopped
@@ -38,12 +38,9 @@ then_assigned i r no_parts e = refl
 then_assigned i r (part p ps) e = refl
 
 -- what something does, it does with what comes behind it
-then_steps : {i : ℕ} {d : SiteAction} {ks : List Comm} {q : Rest} {e f : Store} (r : Rest) (ps : Procs) → Step r e i d ks q f → Step (then_on r ps) e i d ks (then_on q ps) f
-then_steps {i = i} {d = d} {ks = ks} {q = q} {e = e} {f = f} r ps st = subst (λ (x : Rest). Step x e i d ks (then_on q ps) f) (sym (then_goes r ps (does_go r st))) (in_then st)
-
 in_then_did : (r q : Rest) (ps : Procs) (e f : Store) (i : ℕ) (ds : Actions) → Did r e i ds q f → Did (Then r ps) e i ds (then_on q ps) f
 in_then_did r q ps e f i (one d) (ks, st) = (ks, in_then st)
-in_then_did r q ps e f i (whole_output c) (ks, m, g, ls, begins, finishes) = (ks, then_on m ps, g, ls, in_then begins, then_steps m ps finishes)
+in_then_did r q ps e f i (whole_output c) (ks, m, g, ls, begins, finishes) = (ks, then_on m ps, g, ls, in_then begins, then_steps finishes ps)
 
 -- also where it goes on
 pub then_did : (r q : Rest) (ps : Procs) (o : Outcome) (e f : Store) (i : ℕ) (ds : Actions) → Did r e i ds (left_by o q) f → o ≡ outcome_of (left_by o q) → has_ended o ≡ false → Did (and_then r ps) e i ds (left_by o (and_then q ps)) f
@@ -52,7 +49,7 @@ then_did r q (part p ps) o e f i ds h g n =
     let is = left_goes o q n in
     let goes : has_ended (outcome_of q) ≡ false = ap has_ended (ap outcome_of (sym is) ∙ sym g) ∙ n in
     let did = in_then_did r q (part p ps) e f i ds (subst (λ (x : Rest). Did r e i ds x f) is h) in
-    subst (λ (x : Rest). Did (Then r (part p ps)) e i ds x f) (then_goes q (part p ps) goes ∙ sym (left_goes o (Then q (part p ps)) n)) did
+    subst (λ (x : Rest). Did (Then r (part p ps)) e i ds x f) (then_is q (part p ps) (goes_on goes) ∙ sym (left_goes o (Then q (part p ps)) n)) did
 
 pub then_outcome : (q : Rest) (ps : Procs) (o : Outcome) → o ≡ outcome_of (left_by o q) → has_ended o ≡ false → o ≡ outcome_of (left_by o (and_then q ps))
 then_outcome q no_parts o g n = g

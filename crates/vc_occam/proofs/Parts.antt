@@ -4,14 +4,14 @@ use Rattle.std.proofs.lemmas.Bool.{and_parts}
 use Rattle.std.proofs.lemmas.Bool.Decides.{nat_tests}
 use Rattle.std.specs.Prelude.{is_some, nat_lt, slice_get}
 use Rattle.vc_occam.specs.declared.frame.Branch.{Branch}
-use Rattle.vc_occam.specs.declared.frame.Choice.TheVariants.{Open, Taken, Within}
+use Rattle.vc_occam.specs.declared.frame.Choice.TheVariants.{Within}
 use Rattle.vc_occam.specs.declared.frame.Frame.{Frame}
 use Rattle.vc_occam.specs.declared.frame.Frame.TheViews.{out-Frame, size-Frame}
 use Rattle.vc_occam.specs.declared.frame.Guard.{Guard}
 use Rattle.vc_occam.specs.declared.frame.Turn.{Turn}
 use Rattle.vc_process.specs.Syntax.{Exp, Procs, no_parts, part}
 use Rattle.vc_occam.specs.Remains.{Rest, and_then}
-use Rattle.vc_occam.specs.Frames.{View, Shape, seq, par, branching, looping, counting, guarding, skip, empty_seq, empty_par, stop, assign, send, receive, stop_chan, bodies, branches_of, follow, guarded, guards_of, is_at_itself, is_sound, plan_of, plans_of, rest_of, view, view_of}
+use Rattle.vc_occam.specs.Frames.{View, Shape, seq, branching, looping, counting, guarding, bodies, branches_of, follow, guarded, guards_of, is_at_itself, is_sound, plan_of, plans_of, rest_of, view, view_of}
 use Rattle.vc_occam.specs.Private.Frames.{IsPart, innermost, shape, unstopped}
 use Rattle.vc_occam.specs.Private.Sites.{InPreorder, PartsInPreorder, BranchesInPreorder, GuardsInPreorder}
 use Rattle.vc_occam.proofs.AtItself.{frame_sound}
@@ -78,20 +78,7 @@ shape_tells (counting x a n w (Some t)) v h =
     let e : w ≡ v = cc in
     (refl, λ i. ap (λ (x : View). innermost x.rest) e, λ i p. subst (λ (x : View). InPreorder x.plan) e p.1, λ s. subst (λ (x : View). x.sound ≡ true) e s)
 shape_tells (guarding gs (Within k)) v h = (refl, λ i. innermost_follow (slice_get (guarded gs) k) v _ h, λ i p. guard_at gs k v h p.1, λ s. part_is_sound (guarded gs) k v h (and_parts _ _ (and_parts _ _ s).1).1)
-shape_tells skip v h = absurd (cc)
-shape_tells empty_seq v h = absurd (cc)
-shape_tells empty_par v h = absurd (cc)
-shape_tells stop v h = absurd (cc)
-shape_tells (assign x a) v h = absurd (cc)
-shape_tells (send c a b) v h = absurd (cc)
-shape_tells (receive c x b) v h = absurd (cc)
-shape_tells (stop_chan c) v h = absurd (cc)
-shape_tells (par ts) v h = absurd (cc)
-shape_tells (branching bs None) v h = absurd (cc)
-shape_tells (looping b w false) v h = absurd (cc)
-shape_tells (counting x a n w None) v h = absurd (cc)
-shape_tells (guarding gs Open) v h = absurd (cc)
-shape_tells (guarding gs (Taken k)) v h = absurd (cc)
+shape_tells s v h = absurd (cc)
 
 -- a sound frame at one of its parts has not stopped
 going : (i : ℕ) (stopped : Bool) (s : Shape) → is_at_itself s ≡ false → (view_of i stopped s).sound ≡ true → view_of i stopped s ≡ unstopped i s

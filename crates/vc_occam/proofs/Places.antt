@@ -12,7 +12,7 @@ use Rattle.vc_process.specs.Usage.{Set, just, ◌∪◌}
 use Rattle.vc_occam.specs.Sites.{sites, sites_all, sites_branches, sites_guards, site}
 use Rattle.vc_occam.specs.Private.Sites.{Precedes, InPreorder, PartsInPreorder}
 use Rattle.vc_occam.specs.Private.Frames.{place_with, shape, task_views, whole}
-use Rattle.vc_occam.specs.Frames.{View, Shape, skip, empty_seq, empty_par, stop, assign, send, receive, stop_chan, seq, par, branching, looping, counting, guarding, plan_of, plans_of, view, view_of}
+use Rattle.vc_occam.specs.Frames.{View, Shape, skip, plan_of, plans_of, view, view_of}
 use Rattle.vc_occam.proofs.Sites.{either}
 use Rattle.vc_occam.proofs.Stores.{or_left, or_right}
 use Rattle.vc_occam.proofs.Views.{view_out}
@@ -58,19 +58,7 @@ first_site (ALT i gs) k h g = first_of i k (sites_guards gs) h.0 g
 -- a frame's site is that of its process
 pub plan_site : (i : ℕ) (s : Shape) → site (plan_of i s) ≡ i
 plan_site i skip = refl
-plan_site i empty_seq = refl
-plan_site i empty_par = refl
-plan_site i stop = refl
-plan_site i (assign v a) = refl
-plan_site i (send c a b) = refl
-plan_site i (receive c v b) = refl
-plan_site i (stop_chan c) = refl
-plan_site i (seq vs k) = refl
-plan_site i (par ts) = refl
-plan_site i (branching bs t) = refl
-plan_site i (looping b v t) = refl
-plan_site i (counting x a n v t) = refl
-plan_site i (guarding gs c) = refl
+plan_site i s = refl
 
 pub view_site : (i : ℕ) (stopped : Bool) (s : Shape) → site (view_of i stopped s).plan ≡ i
 view_site i true s = plan_site i s

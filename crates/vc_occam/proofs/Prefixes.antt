@@ -54,14 +54,10 @@ mutual
   prefixed cut f = elim f [ ]
   prefixed skip f = elim f [ ]
   prefixed (assign q) f = elim f [ ]
-  prefixed (begin_out q) strict_none = cut
   prefixed (begin_out q) (strict_more f) = elim f [ ]
-  prefixed (out q) strict_none = cut
   prefixed (out q) (strict_more strict_none) = begin_out q
   prefixed (out q) (strict_more (strict_more f)) = elim f [ ]
-  prefixed (input k) strict_none = cut
   prefixed (input k) (strict_more f) = elim f [ ]
-  prefixed stop_chan strict_none = cut
   prefixed stop_chan (strict_more f) = elim f [ ]
   prefixed (seq q) f = seq (prefixed_seq q f)
   prefixed (par q) f = par (prefixed_par q f)
@@ -73,8 +69,8 @@ mutual
     | inr g ↦ subst (λ l. Trace (WHILE i b p) e l Open) (sym g.1) (turn h q (prefixed r g.2))
   ]
   prefixed (count h q) f = count h (prefixed_count q f)
-  prefixed (select h q) strict_none = cut
   prefixed (select h q) (strict_more f) = select h (prefixed_alt q (strict_more f))
+  prefixed t strict_none = cut
 
   pub prefixed_seq : {ps : Procs} {e : Store} {l t : List Comm} {x : End} → TraceSeq ps e l x → StrictPrefix t l → TraceSeq ps e t Open
   prefixed_seq seq_end f = elim f [ ]

@@ -103,32 +103,22 @@ guards (c ∷ gs) g i =
 
 -- one layer, of processes that are good
 abbrev Layer : layer.Process-F Numbered NumberedBranch NumberedGuard → Type 0
-Layer layer.Skip = Unit {0}
-Layer layer.Stop = Unit {0}
-Layer (layer.Set v a) = Unit {0}
-Layer (layer.Send c a) = Unit {0}
-Layer (layer.Receive c v) = Unit {0}
-Layer (layer.Stopch c) = Unit {0}
 Layer (layer.Seq ps) = AreGood ps
 Layer (layer.Par ps) = AreGood ps
 Layer (layer.If bs) = AreGoodBranches bs
 Layer (layer.While b p) = IsGood p
 Layer (layer.Count v a n p) = IsGood p
 Layer (layer.Alt gs) = AreGoodGuards gs
+Layer x = Unit {0}
 
 layer_good : (x : layer.Process-F Numbered NumberedBranch NumberedGuard) → Layer x → IsGood (numbered x)
-layer_good layer.Skip h i = (tt, one i, tt)
-layer_good layer.Stop h i = (tt, one i, tt)
-layer_good (layer.Set v a) h i = (tt, one i, tt)
-layer_good (layer.Send c a) h i = (tt, one i, tt)
-layer_good (layer.Receive c v) h i = (tt, one i, tt)
-layer_good (layer.Stopch c) h i = (tt, one i, tt)
 layer_good (layer.Seq ps) h i = let n = parts ps h (suc i) in (n.0, above i (part_sites ps) (sites_all (parts_from (suc i) ps)) n.2, (own_first i (suc i + part_sites ps) (sites_all (parts_from (suc i) ps)) n.2, n.3))
 layer_good (layer.Par ps) h i = let n = parts ps h (suc i) in (n.1, above i (part_sites ps) (sites_all (parts_from (suc i) ps)) n.2, (own_first i (suc i + part_sites ps) (sites_all (parts_from (suc i) ps)) n.2, n.3))
 layer_good (layer.If bs) h i = let n = branches bs h (suc i) in (n.0, above i (branch_sites bs) (sites_branches (branches_from (suc i) bs)) n.1, (own_first i (suc i + branch_sites bs) (sites_branches (branches_from (suc i) bs)) n.1, n.2))
 layer_good (layer.While b p) h i = let n = h (suc i) in (n.0, above i p.sites (sites (p.tree (suc i))) n.1, (own_first i (suc i + p.sites) (sites (p.tree (suc i))) n.1, n.2))
 layer_good (layer.Count v a k p) h i = let n = h (suc i) in (n.0, above i p.sites (sites (p.tree (suc i))) n.1, (own_first i (suc i + p.sites) (sites (p.tree (suc i))) n.1, n.2))
 layer_good (layer.Alt gs) h i = let n = guards gs h (suc i) in (n.0, above i (guard_sites gs) (sites_guards (guards_from (suc i) gs)) n.1, (own_first i (suc i + guard_sites gs) (sites_guards (guards_from (suc i) gs)) n.1, n.2))
+layer_good x h i = (tt, one i, tt)
 
 abbrev branch_of : layer.Branch-F Numbered NumberedBranch NumberedGuard → NumberedBranch
 branch_of b = record { when = as_test b.cond; then_do = b.body }
@@ -173,18 +163,13 @@ all_good_guards [] = tt
 all_good_guards (g ∷ gs) = (g.1, all_good_guards gs)
 
 layers : (y : layer.Process-F GoodProcess GoodBranch GoodGuard) → Layer (numbered_layer (bare_layer y))
-layers layer.Skip = tt
-layers layer.Stop = tt
-layers (layer.Set v a) = tt
-layers (layer.Send c a) = tt
-layers (layer.Receive c v) = tt
-layers (layer.Stopch c) = tt
 layers (layer.Seq ps) = all_good ps
 layers (layer.Par ps) = all_good ps
 layers (layer.If bs) = all_good_branches bs
 layers (layer.While b p) = p.1
 layers (layer.Count v a k p) = p.1
 layers (layer.Alt gs) = all_good_guards gs
+layers x = tt
 
 -- a whole process is good, by induction; y is x with a proof beside each process within it
 is_good : (p : Process) → IsGood (number p)

@@ -1,15 +1,15 @@
 -- No step loses lawful use.
 use Rattle.std.proofs.Common.{◌≡◌, ℕ, zero, suc, ℤ, Bool, true, false, sym, subst, List, ◌∷◌, ◌++◌, Option, Some, None, ◌⊎◌, inl, inr, ◌||◌, ◌&&◌}
 use Rattle.vc_occam.specs.SiteActions.{SiteAction}
-use Rattle.vc_process.specs.Syntax.{Test, Proc, SKIP, STOP, Assign, Output, Input, StopChan, SEQ, PAR, IF, WHILE, COUNT, ALT, Procs, no_parts, part, Branches, no_branches, branch, Guards, no_guards, guard}
+use Rattle.vc_process.specs.Syntax.{Test, Proc, Assign, Output, SEQ, PAR, IF, WHILE, COUNT, ALT, Procs, no_parts, part, Branches, no_branches, branch, Guards, no_guards, guard}
 use Rattle.vc_process.specs.Values.{Store, holds}
 use Rattle.vc_process.specs.Usage.{Set, just, ◌∪◌, in_exp, in_test, in_given, changes, changes_all, changes_branches, changes_guards, uses, uses_all, uses_branches, uses_guards}
 use Rattle.vc_process.specs.Lawful.{outputs, outputs_all, inputs, inputs_all, With, SideBySide, Lawfully, LawfullyAll, LawfullyBranches, LawfullyGuards}
 use Rattle.vc_occam.specs.Traces.{Comm, Fin, In, End}
-use Rattle.vc_occam.specs.Remains.{Rest, Done, Stopped, Fresh, Finishing, Getting, Then, Turns, Beside, and_then, begin, begin_seq, begin_par, begin_all, then_on, turns_on, beside_on, branch_on, chosen, GuardAt, first, later, Step, does_skip, does_empty_seq, does_empty_par, does_assign, faults_assign, faults_out, does_if, does_turn, does_leave, faults_while, does_count, does_count_none, faults_count, does_offer, does_finish, does_input, waits_input, gets, does_stop, does_choose, waits_choose, in_then, in_turns, in_left, in_right, changes_rest, uses_rest, Apart, KeepsVariablesApart, TraceRest}
+use Rattle.vc_occam.specs.Remains.{Rest, Done, Then, Turns, Beside, and_then, begin, begin_seq, begin_par, begin_all, then_on, turns_on, beside_on, branch_on, chosen, GuardAt, first, later, Step, does_if, does_turn, does_count, does_choose, waits_choose, in_then, in_turns, in_left, in_right, changes_rest, uses_rest, Apart, KeepsVariablesApart, TraceRest}
 use Rattle.vc_occam.specs.Sites.{Disjoint}
 use Rattle.vc_occam.specs.States.{State, StepsTo, Does, IsTraced}
-use Rattle.vc_process.specs.ProcessStep.{ProcessStep, Offers, Wants, Chooses, Stops, Meets, Rests, Finishes, Receives}
+use Rattle.vc_process.specs.ProcessStep.{ProcessStep, Offers, Wants, Chooses, Meets, Finishes, Receives}
 use Rattle.vc_occam.proofs.Sites.{Within, either, not_true, clash}
 use Rattle.vc_occam.proofs.Law.{law}
 use Rattle.vc_occam.proofs.Stores.{or_left, or_right}
@@ -22,18 +22,15 @@ or_both a b c d h j e = elim (either a b e) [ inl l ↦ or_left c d (h l) | inr 
 -- what a process changes it uses
 mutual
   used : (p : Proc) → Within (changes p) (uses p)
-  used (SKIP i) = λ k h. h
-  used (STOP i) = λ k h. h
   used (Assign i v a) = λ k h. or_left (just v k) (in_given a k) h
   used (Output i c a) = λ k h. absurd (let e : false ≡ true = h in cc)
-  used (Input i c v) = λ k h. h
-  used (StopChan i c) = λ k h. h
   used (SEQ i ps) = all_used ps
   used (PAR i ps) = all_used ps
   used (IF i bs) = branches_used bs
   used (WHILE i b p) = λ k h. or_right (in_test b k) (uses p k) (used p k h)
   used (COUNT i v a n p) = λ k h. or_both (just v k) (changes p k) ((just v ∪ (in_exp a ∪ in_exp n)) k) (uses p k) (or_left (just v k) ((in_exp a ∪ in_exp n) k)) (used p k) h
   used (ALT i gs) = guards_used gs
+  used p = λ k h. h
 
   all_used : (ps : Procs) → Within (changes_all ps) (uses_all ps)
   all_used no_parts = λ k h. h
@@ -117,18 +114,13 @@ and_then_uses r (part p ps) h k = (h, k)
 
 mutual
   pub begins : (p : Proc) → Lawfully p → UsesLawfully (begin p)
-  begins (SKIP i) h = tt
-  begins (STOP i) h = tt
-  begins (Assign i v a) h = tt
-  begins (Output i c a) h = tt
-  begins (Input i c v) h = tt
-  begins (StopChan i c) h = tt
   begins (SEQ i ps) h = begins_seq i ps h
   begins (PAR i ps) h = begins_par i ps h.0 h.1
   begins (IF i bs) h = h
   begins (WHILE i b p) h = h
   begins (COUNT i v a n p) h = h
   begins (ALT i gs) h = h
+  begins p h = tt
 
   begins_seq : (i : ℕ) (ps : Procs) → LawfullyAll ps → UsesLawfully (begin_seq i ps)
   begins_seq i no_parts h = tt
@@ -206,72 +198,47 @@ guard_uses first h = h.0
 guard_uses (later g) h = guard_uses g h.1
 
 pub step_uses : {r r' : Rest} {e e' : Store} {i : ℕ} {d : SiteAction} {m : List Comm} → Step r e i d m r' e' → UsesLawfully r → UsesLawfully r'
-step_uses does_skip o = tt
-step_uses does_empty_seq o = tt
-step_uses does_empty_par o = tt
-step_uses (does_assign h) o = tt
-step_uses (faults_assign h) o = tt
-step_uses (faults_out h) o = tt
 step_uses (does_if {s = s} {bs = bs} {e = e}) o = chosen_uses s bs e o
 step_uses (does_turn {p = p} h) o = (begins p o, (o, tt))
-step_uses (does_leave h) o = tt
-step_uses (faults_while h) o = tt
 step_uses (does_count {v = v} {p = p} h) o = (begins p o.1, begin_keeps p v o.0, o.0, o.1)
-step_uses (does_count_none h) o = tt
-step_uses (faults_count h) o = tt
-step_uses (does_offer h) o = tt
-step_uses does_finish o = tt
-step_uses (does_input h) o = tt
-step_uses waits_input o = tt
-step_uses (gets h) o = tt
-step_uses does_stop o = tt
 step_uses (does_choose {p = p} dec g h k) o = begins p (guard_uses g o)
 step_uses (waits_choose dec g h) o = (tt, (guard_uses g o, tt))
 step_uses (in_then {r' = r'} {ps = ps} st) o = then_uses r' ps (step_uses st o.0) o.1
 step_uses (in_turns {r = r} {r' = r'} {v = v} {b = b} {n = n} {p = p} st) o = turns_uses r' v b n p (step_uses st o.0) (unused (changes_rest r' v) (changes_rest r v) ((step_in st).changed v) o.1) (o.2, o.3)
 step_uses (in_left {r = r} {r' = r'} {q = q} {mine = mine} st) o = beside_uses mine r' q (use_left mine r r' q (step_in st) o.0, step_uses st o.1, o.2)
 step_uses (in_right {r = r} {q = q} {q' = q'} {mine = mine} st) o = beside_uses mine r q' (use_right mine r q q' (step_in st) o.0, o.1, step_uses st o.2)
+step_uses st o = tt
 
 -- parts side by side are apart
 pub lawful : (r : Rest) → UsesLawfully r → KeepsVariablesApart r
-lawful Done h = tt
-lawful (Stopped i) h = tt
-lawful (Fresh p) h = tt
-lawful (Finishing s c) h = tt
-lawful (Getting s c v) h = tt
 lawful (Then r ps) h = lawful r h.0
 lawful (Turns r v b n p) h = lawful r h.0
 lawful (Beside mine r q) h = (h.0.variables, lawful r h.1, lawful q h.2)
+lawful r h = tt
 
 pub steps_keep_use : (s s' : State) (i : ℕ) (d : SiteAction) (ks : List Comm) → StepsTo s i d ks s' → UsesLawfully s.rest → UsesLawfully s'.rest
 steps_keep_use s s' i d ks h o = step_uses h o
 
 pub doing_keeps_use : (s s' : State) (d : ProcessStep) (ks : List Comm) → Does s d ks s' → UsesLawfully s.rest → UsesLawfully s'.rest
 doing_keeps_use s s' (Offers i c m) ks h o = step_uses h.3 o
-doing_keeps_use s s' (Wants i c None) ks h o = step_uses h.1 o
 doing_keeps_use s s' (Wants i c (Some m)) ks h o = step_uses h.2 o
-doing_keeps_use s s' (Chooses i k c None) ks h o = step_uses h.1 o
 doing_keeps_use s s' (Chooses i k c (Some m)) ks h o = step_uses h.2 o
-doing_keeps_use s s' (Stops i c) ks h o = step_uses h.1 o
 doing_keeps_use s s' (Meets i j k c m) ks h o = step_uses h.8 (step_uses h.7 (step_uses h.6 o))
-doing_keeps_use s s' (Rests i) ks h o = step_uses h.1 o
 doing_keeps_use s s' (Finishes c) ks h o = step_uses h.2 o
 doing_keeps_use s s' (Receives c m) ks h o = step_uses h.3 o
+doing_keeps_use s s' d ks h o = step_uses h.1 o
 
 step_traced : {r r' : Rest} {e e' : Store} {i : ℕ} {d : SiteAction} {m : List Comm} → Step r e i d m r' e' → UsesLawfully r → (t : List Comm) (x : End) → TraceRest r' e' t x → TraceRest r e (m ++ t) x
 step_traced {r} st o t x h = law st (lawful r o) h
 
 pub doing_is_traced : (s s' : State) (d : ProcessStep) (ks : List Comm) → Does s d ks s' → UsesLawfully s.rest → IsTraced s ks s'
 doing_is_traced s s' (Offers i c m) ks h o = step_traced h.3 o
-doing_is_traced s s' (Wants i c None) ks h o = step_traced h.1 o
 doing_is_traced s s' (Wants i c (Some m)) ks h o = step_traced h.2 o
-doing_is_traced s s' (Chooses i k c None) ks h o = step_traced h.1 o
 doing_is_traced s s' (Chooses i k c (Some m)) ks h o = step_traced h.2 o
-doing_is_traced s s' (Stops i c) ks h o = step_traced h.1 o
 doing_is_traced s s' (Meets i j k c m) ks h o = λ t x q.
     (let a = step_uses h.6 o in
     subst (λ u. TraceRest s.rest s.store (u ++ t) x) (sym h.5)
     (step_traced h.6 o (In c h.1 ∷ Fin c ∷ t) x (step_traced h.7 a (Fin c ∷ t) x (step_traced h.8 (step_uses h.7 a) t x q))))
-doing_is_traced s s' (Rests i) ks h o = step_traced h.1 o
 doing_is_traced s s' (Finishes c) ks h o = step_traced h.2 o
 doing_is_traced s s' (Receives c m) ks h o = step_traced h.3 o
+doing_is_traced s s' d ks h o = step_traced h.1 o

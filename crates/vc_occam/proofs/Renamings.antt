@@ -3,7 +3,7 @@ use Rattle.std.proofs.Common.{◌≡◌, ℕ, ℤ, pos, Bool, true, false, not, 
 use Rattle.std.proofs.lemmas.Bool.{cases_eq}
 use Rattle.vc_process.specs.declared.datum.Datum.{Datum}
 use Rattle.vc_process.specs.declared.datum.Datum.TheVariants as datum
-use Rattle.vc_process.specs.Renaming.{renamed_exp, renamed_test, renamed_given, Renamed, skips, never, assigns, outputs, inputs, stops, in_turn, abreast, one_of, again, counts, chooses, AllRenamed, no_part, parts, BranchesRenamed, no_branch, branches, GuardsRenamed, no_guard, guards}
+use Rattle.vc_process.specs.Renaming.{renamed_exp, renamed_test, renamed_given, Renamed, skips, assigns, outputs, inputs, stops, in_turn, abreast, one_of, again, counts, chooses, AllRenamed, no_part, parts, BranchesRenamed, no_branch, branches, GuardsRenamed, no_guard, guards}
 use Rattle.vc_process.specs.Syntax.{Exp, Number, Variable, Binary, SizeOf, Test, Constant, Compare, Both, Either, Negate, Literal, Contents, Filled, Given, Whole, Bytes, Proc, Procs, Branches, Guards}
 use Rattle.vc_process.specs.Values.{Store, whole_of, bytes_of, with_both, result, compares, within, value_of, holds, datum_of}
 use Rattle.vc_process.specs.Usage.{Set, ◌∪◌, just, in_exp, in_test, in_given, changes, changes_all, changes_branches, changes_guards, uses, uses_all, uses_branches, uses_guards}
@@ -71,12 +71,8 @@ module _ (ρ : ℕ → ℕ) (dom : Set) (apart : (v w : ℕ) → dom v ≡ true 
 
   mutual
     changes_renamed : {p q : Proc} → Renamed ρ p q → Under (changes p) → (v : ℕ) → dom v ≡ true → changes q (ρ v) ≡ changes p v
-    changes_renamed skips u v l = refl
-    changes_renamed never u v l = refl
     changes_renamed (assigns {v = w}) u v l = just_renamed w v (one_under w u) l
-    changes_renamed outputs u v l = refl
     changes_renamed (inputs {v = w}) u v l = just_renamed w v (one_under w u) l
-    changes_renamed stops u v l = refl
     changes_renamed (in_turn h) u v l = all_changes_renamed h u v l
     changes_renamed (abreast h) u v l = all_changes_renamed h u v l
     changes_renamed (one_of h) u v l = branches_changes_renamed h u v l
@@ -84,6 +80,7 @@ module _ (ρ : ℕ → ℕ) (dom : Set) (apart : (v w : ℕ) → dom v ≡ true 
     changes_renamed (counts {v = w} {p = p} h) u v l =
         ap₂ (λ a b. a || b) (just_renamed w v (one_under w (first_under (just w) (changes p) u)) l) (changes_renamed h (second_under (just w) (changes p) u) v l)
     changes_renamed (chooses h) u v l = guards_changes_renamed h u v l
+    changes_renamed x u v l = refl
 
     all_changes_renamed : {ps qs : Procs} → AllRenamed ρ ps qs → Under (changes_all ps) → (v : ℕ) → dom v ≡ true → changes_all qs (ρ v) ≡ changes_all ps v
     all_changes_renamed no_part u v l = refl

@@ -8,7 +8,7 @@ use Rattle.vc_process.specs.declared.datum.Datum.{Datum}
 use Rattle.vc_occam.specs.Opening.{empty_of}
 use Rattle.vc_process.specs.Limits.{exp_fits, given_fits, given_kind, holds_kind}
 use Rattle.vc_process.specs.ProcessLimits.{names_fit, parts_names_fit, branches_names_fit, guards_names_fit, test_fits}
-use Rattle.vc_process.specs.Syntax.{Exp, Number, Variable, Binary, SizeOf, Test, Constant, Compare, Both, Either, Negate, Literal, Contents, Filled, Given, Whole, Bytes, Proc, SKIP, STOP, Assign, Output, Input, StopChan, SEQ, PAR, IF, WHILE, COUNT, ALT, Procs, no_parts, part, Branches, no_branches, branch, Guards, no_guards, guard}
+use Rattle.vc_process.specs.Syntax.{Exp, Number, Variable, Binary, SizeOf, Test, Constant, Compare, Both, Either, Negate, Literal, Contents, Filled, Given, Whole, Bytes, Proc, Assign, Output, Input, SEQ, PAR, IF, WHILE, COUNT, ALT, Procs, no_parts, part, Branches, no_branches, branch, Guards, no_guards, guard}
 use Rattle.vc_process.specs.Usage.{Set, ◌∪◌, just, in_exp, in_test, in_given, uses, uses_all, uses_branches, uses_guards}
 use Rattle.vc_occam.specs.Private.Frames.{HasVariables}
 use Rattle.vc_process.proofs.Held.{held_there}
@@ -53,12 +53,9 @@ module _ (kinds : List ValueKind) where
 
   mutual
     pub uses_there : (p : Proc) (n : ℕ) → names_fit p kinds n ≡ true → There (uses p)
-    uses_there (SKIP i) n h = none_there
-    uses_there (STOP i) n h = none_there
     uses_there (Assign i v a) n h = let m = and_parts (holds_kind kinds v (given_kind a)) (given_fits a kinds) h in cases_or (just v) (in_given a) (just_there v (held_there kinds v (given_kind a) m.0)) (given_there a m.1)
     uses_there (Output i c a) n h = given_there a (and_parts (nat_lt c n) (given_fits a kinds) h).1
     uses_there (Input i c v) n h = just_there v (ltb-true v (length kinds) (and_parts (nat_lt c n) (nat_lt v (length kinds)) h).1)
-    uses_there (StopChan i c) n h = none_there
     uses_there (SEQ i ps) n h = all_there ps n h
     uses_there (PAR i ps) n h = all_there ps n h
     uses_there (IF i bs) n h = branches_there bs n h
@@ -69,6 +66,7 @@ module _ (kinds : List ValueKind) where
         let o = and_parts (holds_kind kinds v of.Int) (exp_fits a kinds) l.0 in
         cases_or (just v ∪ (in_exp a ∪ in_exp k)) (uses p) (cases_or (just v) (in_exp a ∪ in_exp k) (just_there v (held_there kinds v of.Int o.0)) (cases_or (in_exp a) (in_exp k) (exp_there a o.1) (exp_there k l.1))) (uses_there p n m.1)
     uses_there (ALT i gs) n h = guards_there gs n h
+    uses_there p n h = none_there
 
     all_there : (ps : Procs) (n : ℕ) → parts_names_fit ps kinds n ≡ true → There (uses_all ps)
     all_there no_parts n h = none_there

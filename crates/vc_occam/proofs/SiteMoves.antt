@@ -9,30 +9,19 @@ use Rattle.vc_process.specs.Syntax.{Test, Proc, Guards, no_guards, guard}
 use Rattle.vc_process.specs.Values.{Store, holds}
 use Rattle.vc_occam.specs.First.{all_decided, choices, is_true, own}
 use Rattle.vc_occam.specs.InUse.{outputs_rest, inputs_rest}
-use Rattle.vc_occam.specs.Remains.{Rest, GuardAt, first, later, Step, does_skip, does_empty_seq, does_empty_par, does_assign, faults_assign, faults_out, does_if, does_turn, does_leave, faults_while, does_count, does_count_none, faults_count, does_offer, does_input, does_stop, does_choose, in_then, in_turns, in_left, in_right}
+use Rattle.vc_occam.specs.Remains.{Rest, GuardAt, first, later, Step, faults_out, does_offer, does_input, does_stop, does_choose, in_then, in_turns, in_left, in_right}
 use Rattle.vc_occam.specs.Traces.{Comm, Decided}
 use Rattle.vc_occam.specs.declared.moves.Move.TheVariants as move
 use Rattle.vc_occam.specs.SiteActions.{Quiet, Offer, Want, Choose, StopChannel}
 use Rattle.vc_occam.proofs.Stores.{or_left, or_right}
 
 pub quiet_own : {r q : Rest} {e f : Store} {i : ℕ} {ks : List Comm} → Step r e i Quiet ks q f → Contains (own r e) (move.Quiet i)
-quiet_own {i = i} does_skip = at_front (move.Quiet i) []
-quiet_own {i = i} does_empty_seq = at_front (move.Quiet i) []
-quiet_own {i = i} does_empty_par = at_front (move.Quiet i) []
-quiet_own {i = i} (does_assign h) = at_front (move.Quiet i) []
-quiet_own {i = i} (faults_assign h) = at_front (move.Quiet i) []
 quiet_own {i = i} (faults_out {c = c} h) = subst (λ b. Contains ((if b then move.Offer i c else move.Quiet i) ∷ []) (move.Quiet i)) (sym (ap is_some h)) (at_front (move.Quiet i) [])
-quiet_own {i = i} does_if = at_front (move.Quiet i) []
-quiet_own {i = i} (does_turn h) = at_front (move.Quiet i) []
-quiet_own {i = i} (does_leave h) = at_front (move.Quiet i) []
-quiet_own {i = i} (faults_while h) = at_front (move.Quiet i) []
-quiet_own {i = i} (does_count h) = at_front (move.Quiet i) []
-quiet_own {i = i} (does_count_none h) = at_front (move.Quiet i) []
-quiet_own {i = i} (faults_count h) = at_front (move.Quiet i) []
 quiet_own (in_then st) = quiet_own st
 quiet_own (in_turns st) = quiet_own st
 quiet_own {i = i} (in_left {r = r} {q = q} {e = e} st) = Contains-append_left (own r e) (own q e) (move.Quiet i) (quiet_own st)
 quiet_own {i = i} (in_right {r = r} {q = q} {e = e} st) = Contains-append_right (own r e) (own q e) (move.Quiet i) (quiet_own st)
+quiet_own {i = i} st = at_front (move.Quiet i) []
 
 pub stop_own : {r q : Rest} {e f : Store} {i c : ℕ} {ks : List Comm} → Step r e i (StopChannel c) ks q f → Contains (own r e) (move.Stopch i c)
 stop_own {i = i} {c = c} does_stop = at_front (move.Stopch i c) []

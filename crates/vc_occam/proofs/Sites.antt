@@ -1,14 +1,14 @@
 -- Parts side by side keep sites of their own.
 use Rattle.std.proofs.Common.{◌≡◌, ℕ, zero, suc, ℤ, Bool, true, false, refl, sym, ◌∙◌, List, Option, Some, None, ◌⊎◌, inl, inr, ◌||◌}
 use Rattle.vc_occam.specs.SiteActions.{SiteAction}
-use Rattle.vc_process.specs.Syntax.{Test, Proc, SKIP, STOP, Assign, Output, Input, StopChan, SEQ, PAR, IF, WHILE, COUNT, ALT, Procs, no_parts, part, Branches, no_branches, branch, Guards}
+use Rattle.vc_process.specs.Syntax.{Test, Proc, SKIP, Assign, Output, Input, StopChan, SEQ, PAR, IF, WHILE, COUNT, ALT, Procs, no_parts, part, Branches, no_branches, branch, Guards}
 use Rattle.vc_process.specs.Values.{Store, holds}
 use Rattle.vc_process.specs.Usage.{Set, nothing, just, ◌∪◌}
 use Rattle.vc_occam.specs.Traces.{Comm}
 use Rattle.vc_occam.specs.Remains.{Rest, Done, Stopped, Fresh, Finishing, Getting, Then, Turns, Beside, and_then, begin, begin_seq, begin_par, begin_all, then_on, turns_on, beside_on, branch_on, chosen, GuardAt, first, later, Step, does_skip, does_empty_seq, does_empty_par, does_assign, faults_assign, faults_out, does_if, does_turn, does_leave, faults_while, does_count, does_count_none, faults_count, does_offer, does_finish, does_input, waits_input, gets, does_stop, does_choose, waits_choose, in_then, in_turns, in_left, in_right}
 use Rattle.vc_occam.specs.Sites.{sites, sites_all, sites_branches, sites_guards, Disjoint, HasOwnSites, AllHaveOwnSites, PartsHaveOwnSites, BranchesHaveOwnSites, GuardsHaveOwnSites, sites_rest, OwnSites}
 use Rattle.vc_occam.specs.States.{State, StepsTo, Does}
-use Rattle.vc_process.specs.ProcessStep.{ProcessStep, Offers, Wants, Chooses, Stops, Meets, Rests, Finishes, Receives}
+use Rattle.vc_process.specs.ProcessStep.{ProcessStep, Offers, Wants, Chooses, Meets, Finishes, Receives}
 use Rattle.vc_occam.proofs.Stores.{or_left, or_right}
 
 -- the first set is a part of the second
@@ -58,18 +58,9 @@ and_then_own r (part p ps) h k = (h, k)
 -- a process begins with its own sites
 mutual
   pub begin_sites : (p : Proc) → Within (sites_rest (begin p)) (sites p)
-  begin_sites (SKIP i) = λ k h. h
-  begin_sites (STOP i) = λ k h. h
-  begin_sites (Assign i v a) = λ k h. h
-  begin_sites (Output i c a) = λ k h. h
-  begin_sites (Input i c v) = λ k h. h
-  begin_sites (StopChan i c) = λ k h. h
   begin_sites (SEQ i ps) = begin_seq_sites i ps
   begin_sites (PAR i ps) = begin_par_sites i ps
-  begin_sites (IF i bs) = λ k h. h
-  begin_sites (WHILE i b p) = λ k h. h
-  begin_sites (COUNT i v a n p) = λ k h. h
-  begin_sites (ALT i gs) = λ k h. h
+  begin_sites p = λ k h. h
 
   begin_seq_sites : (i : ℕ) (ps : Procs) → Within (sites_rest (begin_seq i ps)) (just i ∪ sites_all ps)
   begin_seq_sites i no_parts = λ k h. h
@@ -85,18 +76,13 @@ mutual
 
 mutual
   pub begin_own : (p : Proc) → HasOwnSites p → OwnSites (begin p)
-  begin_own (SKIP i) h = tt
-  begin_own (STOP i) h = tt
-  begin_own (Assign i v a) h = tt
-  begin_own (Output i c a) h = tt
-  begin_own (Input i c v) h = tt
-  begin_own (StopChan i c) h = tt
   begin_own (SEQ i ps) h = begin_seq_own i ps h
   begin_own (PAR i ps) h = begin_par_own i ps h
   begin_own (IF i bs) h = h
   begin_own (WHILE i b p) h = h
   begin_own (COUNT i v a n p) h = h
   begin_own (ALT i gs) h = h
+  begin_own p h = tt
 
   begin_seq_own : (i : ℕ) (ps : Procs) → AllHaveOwnSites ps → OwnSites (begin_seq i ps)
   begin_seq_own i no_parts h = tt
@@ -215,12 +201,9 @@ meets_keeps a b c o = (step_keeps c (step_keeps b (step_keeps a o).1).1).1
 
 pub doing_keeps : (s s' : State) (d : ProcessStep) (ks : List Comm) → Does s d ks s' → OwnSites s.rest → OwnSites s'.rest
 doing_keeps s s' (Offers i c m) ks h o = (step_keeps h.3 o).1
-doing_keeps s s' (Wants i c None) ks h o = (step_keeps h.1 o).1
 doing_keeps s s' (Wants i c (Some m)) ks h o = (step_keeps h.2 o).1
-doing_keeps s s' (Chooses i k c None) ks h o = (step_keeps h.1 o).1
 doing_keeps s s' (Chooses i k c (Some m)) ks h o = (step_keeps h.2 o).1
-doing_keeps s s' (Stops i c) ks h o = (step_keeps h.1 o).1
 doing_keeps s s' (Meets i j k c m) ks h o = meets_keeps h.6 h.7 h.8 o
-doing_keeps s s' (Rests i) ks h o = (step_keeps h.1 o).1
 doing_keeps s s' (Finishes c) ks h o = (step_keeps h.2 o).1
 doing_keeps s s' (Receives c m) ks h o = (step_keeps h.3 o).1
+doing_keeps s s' d ks h o = (step_keeps h.1 o).1

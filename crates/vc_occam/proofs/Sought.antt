@@ -21,7 +21,7 @@ use Rattle.vc_occam.specs.Sites.{site, sites, sites_all}
 use Rattle.vc_process.proofs.Lists.{at_front, behind, none, only}
 use Rattle.vc_occam.proofs.AtItself.{quiet_shape, taken_own}
 use Rattle.vc_occam.proofs.Choices.{moves_at}
-use Rattle.vc_occam.proofs.Doers.{AllWithin, mover}
+use Rattle.vc_occam.proofs.PartOfSite.{AllWithin, mover}
 use Rattle.vc_occam.proofs.Places.{own_site}
 use Rattle.vc_occam.proofs.SideBySide.{beside_own, drop_task, drop_tasks}
 use Rattle.vc_occam.proofs.Stores.{or_left}

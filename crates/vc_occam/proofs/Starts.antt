@@ -13,7 +13,8 @@ use Rattle.vc_process.specs.Usage.{changes}
 use Rattle.vc_occam.specs.Remains.{Rest, Beside, begin, begin_all}
 use Rattle.vc_occam.specs.Frames.{View, seq, par, all_sound, begun, besides, is_sound, outcome_of, plan_of, plans_of, same_outcome, task_view, view, view_of}
 use Rattle.vc_occam.specs.Private.Frames.{shape, shown, task_views, unstopped, views, whole}
-use Rattle.vc_occam.proofs.Endings.{and_then_outcome, begin_goes, beside_goes, left_goes}
+use Rattle.vc_occam.proofs.Endings.{and_then_outcome, begin_goes, goes_on, left_goes}
+use Rattle.vc_occam.proofs.Lifting.{left_is}
 use Rattle.vc_occam.proofs.Views.{view_out}
 
 -- what was written stays, whether the site has stopped or not
@@ -29,10 +30,8 @@ pub seq_outcome : (i : ℕ) (p : Proc) (ps : Procs) → outcome_of (begin (SEQ i
 seq_outcome i p ps = and_then_outcome (begin p) ps (begin_goes p)
 
 pub same_as_itself : (o : Outcome) → same_outcome o o ≡ true
-same_as_itself outcome.Ended = refl
-same_as_itself outcome.Nothing = refl
 same_as_itself (outcome.Quiet i) = grind (arith, nat_tests)
-same_as_itself outcome.Other = refl
+same_as_itself o = refl
 
 -- a process that goes on by itself has begun, where what it begins with is kept
 pub task_begun : (v : View) (o : Outcome) (p : Proc) → v ≡ begun p → o ≡ outcome_of (begin p) → task_view (record { frame = v; begins = o }) ≡ begun p
@@ -88,7 +87,7 @@ begun_whole (suc k) (v ∷ vs) l = ap (λ ws. begun v.plan ∷ ws) (begun_whole 
 
 besides_begun : (vs : List View) → besides (all_begun vs) ≡ begin_all (plans_of vs)
 besides_begun [] = refl
-besides_begun (v ∷ vs) = beside_goes (changes v.plan) (begin v.plan) (besides (all_begun vs)) (begin_goes v.plan) ∙ ap (Beside (changes v.plan) (begin v.plan)) (besides_begun vs)
+besides_begun (v ∷ vs) = left_is (changes v.plan) (begin v.plan) (besides (all_begun vs)) (goes_on (begin_goes v.plan)) ∙ ap (Beside (changes v.plan) (begin v.plan)) (besides_begun vs)
 
 begun_plans_of : (vs : List View) → plans_of (all_begun vs) ≡ plans_of vs
 begun_plans_of [] = refl

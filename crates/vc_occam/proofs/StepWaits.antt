@@ -4,11 +4,11 @@ use Rattle.std.specs.List.{Contains}
 use Rattle.vc_process.specs.declared.datum.Datum.{Datum}
 use Rattle.vc_occam.specs.SiteActions.{SiteAction}
 use Rattle.vc_occam.specs.SiteActions as action
-use Rattle.vc_process.specs.Syntax.{Proc, SKIP, STOP, Assign, Output, Input, StopChan, SEQ, PAR, IF, WHILE, COUNT, ALT, Procs, no_parts, part, Branches, no_branches, branch}
+use Rattle.vc_process.specs.Syntax.{Proc, SEQ, PAR, Procs, no_parts, part, Branches, no_branches, branch}
 use Rattle.vc_process.specs.Values.{Store, holds}
 use Rattle.vc_process.specs.Usage.{Set}
 use Rattle.vc_occam.specs.Traces.{Comm, Fin, In}
-use Rattle.vc_occam.specs.Remains.{and_then, Rest, Done, begin, begin_seq, begin_par, begin_all, then_on, turns_on, beside_on, branch_on, chosen, Step, does_skip, does_empty_seq, does_empty_par, does_assign, faults_assign, faults_out, does_if, does_turn, does_leave, faults_while, does_count, does_count_none, faults_count, does_offer, does_finish, does_input, waits_input, gets, does_stop, does_choose, waits_choose, in_then, in_turns, in_left, in_right}
+use Rattle.vc_occam.specs.Remains.{and_then, Rest, Done, begin, begin_seq, begin_par, begin_all, then_on, turns_on, beside_on, branch_on, chosen, Step, does_if, does_turn, does_count, does_offer, does_finish, waits_input, gets, does_choose, waits_choose, in_then, in_turns, in_left, in_right}
 use Rattle.vc_occam.specs.States.{State, Does, meeting, Waiting, output, input, waiting}
 use Rattle.vc_process.specs.ProcessStep.{ProcessStep, Offers, Wants, Chooses, Stops, Meets, Rests, Finishes, Receives}
 use Rattle.vc_occam.specs.Laws.{IsAdded, IsKept, Inserted, inserted_here, WaitsAfter}
@@ -24,18 +24,9 @@ and_then_waits r (part p ps) = refl
 mutual
   -- a process that begins waits for nothing
   pub begin_waits : (p : Proc) → waiting (begin p) ≡ []
-  begin_waits (SKIP i) = refl
-  begin_waits (STOP i) = refl
-  begin_waits (Assign i v a) = refl
-  begin_waits (Output i c a) = refl
-  begin_waits (Input i c v) = refl
-  begin_waits (StopChan i c) = refl
   begin_waits (SEQ i ps) = begin_seq_waits i ps
   begin_waits (PAR i ps) = begin_par_waits i ps
-  begin_waits (IF i bs) = refl
-  begin_waits (WHILE i b p) = refl
-  begin_waits (COUNT i v a k p) = refl
-  begin_waits (ALT i gs) = refl
+  begin_waits p = refl
 
   begin_seq_waits : (i : ℕ) (ps : Procs) → waiting (begin_seq i ps) ≡ []
   begin_seq_waits i no_parts = refl
@@ -76,56 +67,35 @@ chosen_waits s (branch b p bs) e = branch_waits s (holds b e) (begin p) (chosen 
 abbrev pub Changed : ℕ → SiteAction → List Comm → List Waiting → List Waiting → Type 0
 Changed i (action.Offer c) m old new = Inserted (output i c) old new
 Changed i (action.Want c None) m old new = Inserted (input i c) old new
-Changed i (action.Want c (Some x)) m old new = new ≡ old
 Changed i (action.Choose k c None) m old new = Inserted (input i c) old new
-Changed i (action.Choose k c (Some x)) m old new = new ≡ old
 Changed i action.Finish m old new = (c : ℕ) × (m ≡ Fin c ∷ []) × Inserted (output i c) new old
 Changed i (action.Message x) m old new = (c : ℕ) × (d : Datum) × (m ≡ In c d ∷ []) × Inserted (input i c) new old
-Changed i action.Quiet m old new = new ≡ old
-Changed i (action.StopChannel c) m old new = new ≡ old
+Changed i d m old new = new ≡ old
 
 changed_left : (i : ℕ) (d : SiteAction) (m : List Comm) (old new : List Waiting) (ws : List Waiting) → Changed i d m old new → Changed i d m (old ++ ws) (new ++ ws)
 changed_left i (action.Offer c) m old new ws h = inserted_left ws h
 changed_left i (action.Want c None) m old new ws h = inserted_left ws h
-changed_left i (action.Want c (Some x)) m old new ws h = ap (λ xs. xs ++ ws) h
 changed_left i (action.Choose k c None) m old new ws h = inserted_left ws h
-changed_left i (action.Choose k c (Some x)) m old new ws h = ap (λ xs. xs ++ ws) h
 changed_left i action.Finish m old new ws h = (h.0, h.1, inserted_left ws h.2)
 changed_left i (action.Message x) m old new ws h = (h.0, h.1, h.2, inserted_left ws h.3)
-changed_left i action.Quiet m old new ws h = ap (λ xs. xs ++ ws) h
-changed_left i (action.StopChannel c) m old new ws h = ap (λ xs. xs ++ ws) h
+changed_left i d m old new ws h = ap (λ xs. xs ++ ws) h
 
 changed_right : (i : ℕ) (d : SiteAction) (m : List Comm) (old new : List Waiting) (ws : List Waiting) → Changed i d m old new → Changed i d m (ws ++ old) (ws ++ new)
 changed_right i (action.Offer c) m old new ws h = inserted_right ws h
 changed_right i (action.Want c None) m old new ws h = inserted_right ws h
-changed_right i (action.Want c (Some x)) m old new ws h = ap (λ xs. ws ++ xs) h
 changed_right i (action.Choose k c None) m old new ws h = inserted_right ws h
-changed_right i (action.Choose k c (Some x)) m old new ws h = ap (λ xs. ws ++ xs) h
 changed_right i action.Finish m old new ws h = (h.0, h.1, inserted_right ws h.2)
 changed_right i (action.Message x) m old new ws h = (h.0, h.1, h.2, inserted_right ws h.3)
-changed_right i action.Quiet m old new ws h = ap (λ xs. ws ++ xs) h
-changed_right i (action.StopChannel c) m old new ws h = ap (λ xs. ws ++ xs) h
+changed_right i d m old new ws h = ap (λ xs. ws ++ xs) h
 
 pub step_waits : {r r' : Rest} {e e' : Store} {i : ℕ} {d : SiteAction} {m : List Comm} → Step r e i d m r' e' → Changed i d m (waiting r) (waiting r')
-step_waits does_skip = refl
-step_waits does_empty_seq = refl
-step_waits does_empty_par = refl
-step_waits (does_assign h) = refl
-step_waits (faults_assign h) = refl
-step_waits (faults_out h) = refl
 step_waits (does_if {s = s} {bs = bs} {e = e}) = chosen_waits s bs e
 step_waits (does_turn {p = p} h) = begin_waits p
-step_waits (does_leave h) = refl
-step_waits (faults_while h) = refl
 step_waits (does_count {p = p} h) = begin_waits p
-step_waits (does_count_none h) = refl
-step_waits (faults_count h) = refl
 step_waits (does_offer h) = inserted_here
 step_waits (does_finish {c = c}) = (c, refl, inserted_here)
-step_waits (does_input h) = refl
 step_waits waits_input = inserted_here
 step_waits (gets {c = c} {x = x} h) = (c, x, refl, inserted_here)
-step_waits does_stop = refl
 step_waits (does_choose {p = p} dec g h k) = begin_waits p
 step_waits (waits_choose dec g h) = inserted_here
 step_waits (in_then {i = i} {d = d} {m = m} {r = r} {r' = r'} {ps = ps} st) = subst (Changed i d m (waiting r)) (sym (then_waits r' ps)) (step_waits st)
@@ -134,6 +104,7 @@ step_waits (in_left {i = i} {d = d} {m = m} {r = r} {r' = r'} {q = q} {mine = mi
     subst (Changed i d m (waiting r ++ waiting q)) (sym (beside_waits mine r' q)) (changed_left i d m (waiting r) (waiting r') (waiting q) (step_waits st))
 step_waits (in_right {i = i} {d = d} {m = m} {r = r} {q = q} {q' = q'} {mine = mine} st) =
     subst (Changed i d m (waiting r ++ waiting q)) (sym (beside_waits mine r q')) (changed_right i d m (waiting q) (waiting q') (waiting r) (step_waits st))
+step_waits st = refl
 
 pub added : {x : Waiting} {old new : List Waiting} → Inserted x old new → IsAdded x old new
 added {x} {old} {new} h w =

@@ -193,9 +193,7 @@ turn_lighter i b p = let one : weight (WHILE i b p) ≡ suc (weight p) = refl in
 -- where what goes on comes to one step, so does the part
 unless_only : (o : Outcome) (j : ℕ) → unless_ended o ≡ outcome.Quiet j → o ≡ outcome.Quiet j
 unless_only outcome.Ended j h = absurd cc
-unless_only outcome.Nothing j h = h
-unless_only (outcome.Quiet i) j h = h
-unless_only outcome.Other j h = h
+unless_only o j h = h
 
 then_only : (r : Rest) (ps : Procs) (j : ℕ) → outcome_of (and_then r ps) ≡ outcome.Quiet j → outcome_of r ≡ outcome.Quiet j
 then_only r no_parts j h = h

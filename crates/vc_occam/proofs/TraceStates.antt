@@ -12,13 +12,7 @@ use Rattle.vc_occam.proofs.KindPreservation.{Remains, Sound}
 module _ (channel : ℕ → ValueKind) (kinds : List ValueKind) where
   is_open : (r : Rest) (e : Store) → Remains channel kinds r → so_far r e ≡ Open
   is_open Done e h = absurd h
-  is_open (Stopped i) e h = refl
-  is_open (Fresh p) e h = refl
-  is_open (Finishing s c) e h = refl
-  is_open (Getting s c v) e h = refl
-  is_open (Then r ps) e h = refl
-  is_open (Turns r v b n p) e h = refl
-  is_open (Beside mine r q) e h = refl
+  is_open r e h = refl
 
   right_open : (mine : Set) (x : End) → both_ended mine x Open ≡ Open
   right_open mine Open = refl

@@ -1,7 +1,7 @@
 -- What remains after a step changes and uses no more variables, and outputs and inputs on no more channels, than what remained before.
 use Rattle.std.proofs.Common.{◌≡◌, ℕ, zero, suc, ℤ, Bool, true, false, List, Option, Some, None, inl, inr}
 use Rattle.vc_occam.specs.SiteActions.{SiteAction}
-use Rattle.vc_process.specs.Syntax.{Test, Proc, SKIP, STOP, Assign, Output, Input, StopChan, SEQ, PAR, IF, WHILE, COUNT, ALT, Procs, no_parts, part, Branches, no_branches, branch, Guards, guard}
+use Rattle.vc_process.specs.Syntax.{Test, Proc, SKIP, Assign, Output, Input, StopChan, SEQ, PAR, IF, WHILE, COUNT, ALT, Procs, no_parts, part, Branches, no_branches, branch, Guards, guard}
 use Rattle.vc_process.specs.Values.{Store, holds}
 use Rattle.vc_process.specs.Usage.{Set, nothing, just, ◌∪◌, in_exp, in_test, changes, changes_all, changes_branches, changes_guards, uses, uses_all, uses_branches, uses_guards}
 use Rattle.vc_occam.specs.Traces.{Comm}
@@ -105,18 +105,11 @@ and_then_in r a (part p ps) h = joined (of_rest r) (of_all (part p ps)) a (of_al
 -- a process begins with its own variables and channels
 mutual
   pub begin_in : (p : Proc) → IsPart (of_rest (begin p)) (of p)
-  begin_in (SKIP i) = same (of (SKIP i))
-  begin_in (STOP i) = same (of (STOP i))
-  begin_in (Assign i v a) = same (of (Assign i v a))
-  begin_in (Output i c a) = same (of (Output i c a))
-  begin_in (Input i c v) = same (of (Input i c v))
-  begin_in (StopChan i c) = same (of (StopChan i c))
   begin_in (SEQ i ps) = begin_seq_in i ps
   begin_in (PAR i ps) = begin_par_in i ps
   begin_in (IF i bs) = same (of_branches bs)
-  begin_in (WHILE i b p) = same (of (WHILE i b p))
-  begin_in (COUNT i v a n p) = same (of (COUNT i v a n p))
   begin_in (ALT i gs) = same (of_guards gs)
+  begin_in p = same (of p)
 
   begin_seq_in : (i : ℕ) (ps : Procs) → IsPart (of_rest (begin_seq i ps)) (of_all ps)
   begin_seq_in i no_parts = same none

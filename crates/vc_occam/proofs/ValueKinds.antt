@@ -9,7 +9,7 @@ use Rattle.vc_process.specs.ChannelUses.{guard_uses, channel_uses, uses_of_all, 
 use Rattle.vc_process.specs.Limits.{same_kind, is_kind, holds_kind, exp_fits, given_fits, given_kind}
 use Rattle.vc_occam.specs.Opening.{empty_of}
 use Rattle.vc_process.specs.ProcessLimits.{test_fits, names_fit, parts_names_fit, branches_names_fit, guards_names_fit}
-use Rattle.vc_process.specs.Syntax.{Proc, SKIP, STOP, Assign, Output, Input, StopChan, SEQ, PAR, IF, WHILE, COUNT, ALT, Procs, no_parts, part, Branches, no_branches, branch, Guards, no_guards, guard}
+use Rattle.vc_process.specs.Syntax.{Proc, Assign, Output, Input, SEQ, PAR, IF, WHILE, COUNT, ALT, Procs, no_parts, part, Branches, no_branches, branch, Guards, no_guards, guard}
 use Rattle.vc_process.specs.Terms.{store}
 use Rattle.vc_occam.proofs.KindPreservation.{kind_of, HasKind, StoreHasKinds, Kinded, AllKinded, BranchesKinded, GuardsKinded}
 
@@ -53,12 +53,9 @@ module _ (channel : ℕ → ValueKind) (kinds : List ValueKind) (n : ℕ) where
 
   mutual
     pub kinded : (p : Proc) → names_fit p kinds n ≡ true → AreKinded channel (channel_uses kinds p) → Kinded channel kinds p
-    kinded (SKIP i) h u = tt
-    kinded (STOP i) h u = tt
     kinded (Assign i v a) h u = held (slice_get kinds v) (given_kind a) (and_parts (holds_kind kinds v (given_kind a)) (given_fits a kinds) h).0
     kinded (Output i c a) h u = u.0 (given_kind a) refl
     kinded (Input i c v) h u = input_kinded c v (and_parts (nat_lt c n) (nat_lt v (length kinds)) h).1 u.0
-    kinded (StopChan i c) h u = tt
     kinded (SEQ i ps) h u = all_kinded ps h u
     kinded (PAR i ps) h u = all_kinded ps h u
     kinded (IF i bs) h u = branches_kinded bs h u
@@ -68,6 +65,7 @@ module _ (channel : ℕ → ValueKind) (kinds : List ValueKind) (n : ℕ) where
         let index = and_parts (holds_kind kinds v kind.Int) (exp_fits a kinds) (and_parts (holds_kind kinds v kind.Int && exp_fits a kinds) (exp_fits k kinds) parts.0).0 in
         (held (slice_get kinds v) kind.Int index.0, kinded p parts.1 u)
     kinded (ALT i gs) h u = guards_kinded gs h (first_ones (guard_uses kinds gs) (uses_of_bodies kinds gs) u) (last_ones (guard_uses kinds gs) (uses_of_bodies kinds gs) u)
+    kinded p h u = tt
 
     all_kinded : (ps : Procs) → parts_names_fit ps kinds n ≡ true → AreKinded channel (uses_of_all kinds ps) → AllKinded channel kinds ps
     all_kinded no_parts h u = tt

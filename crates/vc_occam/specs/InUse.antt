@@ -2,7 +2,7 @@
 use Rattle.std.specs.Prelude.{◌≡◌, ℕ, false, List}
 use Rattle.vc_occam.specs.SiteActions.{SiteAction}
 use Rattle.vc_process.specs.Lawful.{outputs, outputs_all, inputs, inputs_all, Lawfully, LawfullyAll}
-use Rattle.vc_occam.specs.Remains.{Rest, Done, Stopped, Fresh, Finishing, Getting, Then, Turns, Beside, begin, changes_rest, Apart}
+use Rattle.vc_occam.specs.Remains.{Rest, Fresh, Finishing, Getting, Then, Turns, Beside, begin, changes_rest, Apart}
 use Rattle.vc_occam.specs.Sites.{Disjoint}
 use Rattle.vc_occam.specs.States.{State, StepsTo, Does, IsTraced}
 use Rattle.vc_process.specs.ProcessStep.{ProcessStep}
@@ -12,24 +12,20 @@ use Rattle.vc_process.specs.Usage.{Set, nothing, just, ◌∪◌, changes}
 
 -- the channels on which what remains outputs, and those on which it inputs, has a guard or stops
 abbrev pub outputs_rest : Rest → Set
-outputs_rest Done = nothing
-outputs_rest (Stopped i) = nothing
 outputs_rest (Fresh p) = outputs p
 outputs_rest (Finishing s c) = just c
-outputs_rest (Getting s c v) = nothing
 outputs_rest (Then r ps) = outputs_rest r ∪ outputs_all ps
 outputs_rest (Turns r v b n p) = outputs_rest r ∪ outputs p
 outputs_rest (Beside mine r q) = outputs_rest r ∪ outputs_rest q
+outputs_rest r = nothing
 
 abbrev pub inputs_rest : Rest → Set
-inputs_rest Done = nothing
-inputs_rest (Stopped i) = nothing
 inputs_rest (Fresh p) = inputs p
-inputs_rest (Finishing s c) = nothing
 inputs_rest (Getting s c v) = just c
 inputs_rest (Then r ps) = inputs_rest r ∪ inputs_all ps
 inputs_rest (Turns r v b n p) = inputs_rest r ∪ inputs p
 inputs_rest (Beside mine r q) = inputs_rest r ∪ inputs_rest q
+inputs_rest r = nothing
 
 -- side by side, no channel is output on twice, none is input on twice, and neither changes what the other uses
 pub record UseApart (mine : Set) (r q : Rest) : Type 0 where
@@ -40,14 +36,11 @@ pub record UseApart (mine : Set) (r q : Rest) : Type 0 where
 -- what remains uses its channels and variables lawfully: parts side by side keep apart, a replicated SEQ keeps its index, and what
 -- is yet to begin is lawful
 abbrev pub UsesLawfully : Rest → Type 0
-UsesLawfully Done = Unit {0}
-UsesLawfully (Stopped i) = Unit {0}
 UsesLawfully (Fresh p) = Lawfully p
-UsesLawfully (Finishing s c) = Unit {0}
-UsesLawfully (Getting s c v) = Unit {0}
 UsesLawfully (Then r ps) = UsesLawfully r × LawfullyAll ps
 UsesLawfully (Turns r v b n p) = UsesLawfully r × (changes_rest r v ≡ false) × (changes p v ≡ false) × Lawfully p
 UsesLawfully (Beside mine r q) = UseApart mine r q × UsesLawfully r × UsesLawfully q
+UsesLawfully r = Unit {0}
 
 -- a process that is written lawfully begins so
 abbrev pub LawfulAtFirst : Type 0

@@ -54,18 +54,13 @@ Disjoint a b = (k : ℕ) → a k ≡ true → b k ≡ false
 -- within a process, parts side by side have no site in common
 abbrev mutual
   pub HasOwnSites : Proc → Type 0
-  HasOwnSites (SKIP i) = Unit {0}
-  HasOwnSites (STOP i) = Unit {0}
-  HasOwnSites (Assign i v a) = Unit {0}
-  HasOwnSites (Output i c a) = Unit {0}
-  HasOwnSites (Input i c v) = Unit {0}
-  HasOwnSites (StopChan i c) = Unit {0}
   HasOwnSites (SEQ i ps) = AllHaveOwnSites ps
   HasOwnSites (PAR i ps) = PartsHaveOwnSites ps
   HasOwnSites (IF i bs) = BranchesHaveOwnSites bs
   HasOwnSites (WHILE i b p) = HasOwnSites p
   HasOwnSites (COUNT i v a n p) = HasOwnSites p
   HasOwnSites (ALT i gs) = GuardsHaveOwnSites gs
+  HasOwnSites p = Unit {0}
 
   pub AllHaveOwnSites : Procs → Type 0
   AllHaveOwnSites no_parts = Unit {0}
@@ -96,11 +91,8 @@ sites_rest (Beside mine r q) = sites_rest r ∪ sites_rest q
 
 -- side by side, what remains has no site in common
 abbrev pub OwnSites : Rest → Type 0
-OwnSites Done = Unit {0}
-OwnSites (Stopped i) = Unit {0}
 OwnSites (Fresh p) = HasOwnSites p
-OwnSites (Finishing s c) = Unit {0}
-OwnSites (Getting s c v) = Unit {0}
 OwnSites (Then r ps) = OwnSites r × AllHaveOwnSites ps
 OwnSites (Turns r v b n p) = OwnSites r × HasOwnSites p
 OwnSites (Beside mine r q) = Disjoint (sites_rest r) (sites_rest q) × OwnSites r × OwnSites q
+OwnSites r = Unit {0}

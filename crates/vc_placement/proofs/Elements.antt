@@ -83,16 +83,12 @@ after_out (turn_other e g) q = absurd (e q)
 
 -- an element on another channel is passed over
 pub exchanged_past : (n c : ℕ) (x : Datum) (i : Element) (l : List Element) → chan_of i ≢ c → exchanged n c x (i ∷ l) ≡ i ∷ exchanged n c x l
-exchanged_past n c x (Exchanged s r d y z) l e = refl
-exchanged_past n c x (Stopped s d) l e = refl
 exchanged_past n c x (Received s d y) l e = ap (λ b. if b then Exchanged n s c x y ∷ without c l else Received s d y ∷ exchanged n c x l) (ne_eqb d c e)
-exchanged_past n c x (Finished s d) l e = refl
+exchanged_past n c x y l e = refl
 
 pub without_past : (c : ℕ) (i : Element) (l : List Element) → chan_of i ≢ c → without c (i ∷ l) ≡ i ∷ without c l
-without_past c (Exchanged s r d y z) l e = refl
-without_past c (Stopped s d) l e = refl
-without_past c (Received s d y) l e = refl
 without_past c (Finished s d) l e = ap (λ b. if b then l else Finished s d ∷ without c l) (ne_eqb d c e)
+without_past c x l e = refl
 
 -- on its own channel it is met
 pub exchanged_at : (n c : ℕ) (x : Datum) (s : ℕ) (y : Datum) (l : List Element) → exchanged n c x (Received s c y ∷ l) ≡ Exchanged n s c x y ∷ without c l
@@ -168,9 +164,7 @@ elements_in_turn (turn_other {k = Stp d} e g) = other e (elements_in_turn g)
 -- each message that passes is got as it was sent
 abbrev pub IsMet : Element → Type 0
 IsMet (Exchanged n m c x y) = message x ≡ message y
-IsMet (Stopped n c) = Unit {0}
-IsMet (Received n c y) = Unit {0}
-IsMet (Finished n c) = Unit {0}
+IsMet x = Unit {0}
 
 abbrev pub AreMet : List Element → Type 0
 AreMet [] = Unit {0}

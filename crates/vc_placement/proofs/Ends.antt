@@ -3,7 +3,7 @@ use Rattle.std.proofs.Common.{◌≡◌, ℕ, zero, suc, Bool, true, false, refl
 use Rattle.vc_occam.proofs.Sites.{either}
 use Rattle.vc_process.specs.ChannelUses.{channel_uses, guard_uses, uses_of_all, uses_of_bodies, uses_of_branches}
 use Rattle.vc_process.specs.Lawful.{inputs, inputs_all, inputs_branches, inputs_guards, outputs, outputs_all, outputs_branches, outputs_guards}
-use Rattle.vc_process.specs.Syntax.{Proc, SKIP, STOP, Assign, Output, Input, StopChan, SEQ, PAR, IF, WHILE, COUNT, ALT, Procs, no_parts, part, Branches, no_branches, branch, Guards, no_guards, guard}
+use Rattle.vc_process.specs.Syntax.{Proc, Output, Input, StopChan, SEQ, PAR, IF, WHILE, COUNT, ALT, Procs, no_parts, part, Branches, no_branches, branch, Guards, no_guards, guard}
 use Rattle.vc_process.specs.Usage.{◌∪◌, just}
 use Rattle.vc_process.specs.declared.channel_use.ChannelUse.{ChannelUse}
 use Rattle.vc_process.specs.declared.value_kind.ValueKind.{ValueKind}
@@ -27,18 +27,14 @@ module _ (kinds : List ValueKind) (c : ℕ) where
 
   mutual
     pub output_use : (p : Proc) → outputs p c ≡ true → HasUse true c (channel_uses kinds p)
-    output_use (SKIP i) h = none h
-    output_use (STOP i) h = none h
-    output_use (Assign i v a) h = none h
     output_use (Output i d a) h = (zero, _, refl, sym (eqb-true c d h), refl)
-    output_use (Input i d v) h = none h
-    output_use (StopChan i d) h = none h
     output_use (SEQ i ps) h = parts_output_use ps h
     output_use (PAR i ps) h = parts_output_use ps h
     output_use (IF i bs) h = branches_output_use bs h
     output_use (WHILE i t p) h = output_use p h
     output_use (COUNT i v a n p) h = output_use p h
     output_use (ALT i gs) h = has_right true c (guard_uses kinds gs) (uses_of_bodies kinds gs) (bodies_output_use gs h)
+    output_use p h = none h
 
     parts_output_use : (ps : Procs) → outputs_all ps c ≡ true → HasUse true c (uses_of_all kinds ps)
     parts_output_use no_parts h = none h
@@ -63,10 +59,6 @@ module _ (kinds : List ValueKind) (c : ℕ) where
 
   mutual
     pub input_use : (p : Proc) → inputs p c ≡ true → HasUse false c (channel_uses kinds p)
-    input_use (SKIP i) h = none h
-    input_use (STOP i) h = none h
-    input_use (Assign i v a) h = none h
-    input_use (Output i d a) h = none h
     input_use (Input i d v) h = (zero, _, refl, sym (eqb-true c d h), refl)
     input_use (StopChan i d) h = (zero, _, refl, sym (eqb-true c d h), refl)
     input_use (SEQ i ps) h = parts_input_use ps h
@@ -78,6 +70,7 @@ module _ (kinds : List ValueKind) (c : ℕ) where
       | inl e ↦ has_left false c (guard_uses kinds gs) (uses_of_bodies kinds gs) e
       | inr e ↦ has_right false c (guard_uses kinds gs) (uses_of_bodies kinds gs) e
     ]
+    input_use p h = none h
 
     parts_input_use : (ps : Procs) → inputs_all ps c ≡ true → HasUse false c (uses_of_all kinds ps)
     parts_input_use no_parts h = none h

@@ -19,10 +19,8 @@ both_true {a = false} e f = e
 
 module _ (ρ : ℕ → ℕ) where
   exp_within_kept : (a : Exp) (n : ℕ) → exp_within (renamed_exp ρ a) n ≡ exp_within a n
-  exp_within_kept (Number z) n = refl
-  exp_within_kept (Variable v) n = refl
-  exp_within_kept (SizeOf v) n = refl
   exp_within_kept (Binary op a b) n = ap₂ (λ x y. nat_lt 0 n && (x && y)) (exp_within_kept a (n - 1)) (exp_within_kept b (n - 1))
+  exp_within_kept a n = refl
 
   given_within_kept : (a : Given) (n : ℕ) → given_within (renamed_given ρ a) n ≡ given_within a n
   given_within_kept (Whole a) n = exp_within_kept a n
@@ -38,8 +36,7 @@ module _ (ρ : ℕ → ℕ) where
   given_length_kept : (a : Given) → given_in_length (renamed_given ρ a) ≡ given_in_length a
   given_length_kept (Whole a) = refl
   given_length_kept (Bytes (Literal xs)) = refl
-  given_length_kept (Bytes (Contents v)) = refl
-  given_length_kept (Bytes (Filled b n)) = refl
+  given_length_kept a = refl
 
   given_kind_kept : (a : Given) → given_kind (renamed_given ρ a) ≡ given_kind a
   given_kind_kept (Whole a) = refl
@@ -255,18 +252,15 @@ module _ (ρ : ℕ → ℕ) where
 
     mutual
       pub uses_kept : {p q : Proc} → Renamed ρ p q → names_fit p kinds n ≡ true → channel_uses big q ≡ channel_uses kinds p
-      uses_kept skips h = refl
-      uses_kept never h = refl
-      uses_kept assigns h = refl
       uses_kept (sends {c = c} {a = a}) h = ap (λ k. record { chan = c; is_output = true; kind = Some k } ∷ []) (given_kind_kept a)
       uses_kept (receives {c = c} {v = v}) h = ap (λ u. u ∷ []) (input_kept c v (both (nat_lt c n) (nat_lt v (length kinds)) h).1)
-      uses_kept stops h = refl
       uses_kept (in_turn g) h = parts_uses_kept g h
       uses_kept (abreast g) h = parts_uses_kept g h
       uses_kept (one_of g) h = branches_uses_kept g h
       uses_kept (again {b = b} {p = p} g) h = uses_kept g (both (test_fits b kinds) (names_fit p kinds n) h).1
       uses_kept (counts {v = v} {a = a} {n = k} {p = p} g) h = uses_kept g (both (holds_kind kinds v of.Int && exp_fits a kinds && exp_fits k kinds) (names_fit p kinds n) h).1
       uses_kept (chooses g) h = ap₂ (λ x y. x ++ y) (guard_uses_kept g h) (bodies_uses_kept g h)
+      uses_kept x h = refl
 
       parts_uses_kept : {ps qs : Procs} → AllRenamed ρ ps qs → parts_names_fit ps kinds n ≡ true → uses_of_all big qs ≡ uses_of_all kinds ps
       parts_uses_kept no_part h = refl

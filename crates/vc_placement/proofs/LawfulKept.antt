@@ -98,12 +98,9 @@ module _ (ρ : ℕ → ℕ) where
 
   mutual
     pub uses_from : {p q : Proc} → Renamed ρ p q → From (uses p) (uses q)
-    uses_from skips = none_from
-    uses_from never = none_from
     uses_from (assigns {v = v} {a = a}) = both_from (just v) (just (ρ v)) (in_given a) (in_given (renamed_given ρ a)) (just_from v) (given_from a)
     uses_from (sends {a = a}) = given_from a
     uses_from (receives {v = v}) = just_from v
-    uses_from stops = none_from
     uses_from (in_turn h) = all_uses_from h
     uses_from (abreast h) = all_uses_from h
     uses_from (one_of h) = branches_uses_from h
@@ -114,6 +111,7 @@ module _ (ρ : ℕ → ℕ) where
         (both_from (in_exp a) (in_exp (renamed_exp ρ a)) (in_exp n) (in_exp (renamed_exp ρ n)) (exp_from a) (exp_from n)))
         (uses_from h)
     uses_from (chooses h) = guards_uses_from h
+    uses_from x = none_from
 
     all_uses_from : {ps qs : Procs} → AllRenamed ρ ps qs → From (uses_all ps) (uses_all qs)
     all_uses_from no_part = none_from

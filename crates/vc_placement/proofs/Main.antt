@@ -508,15 +508,12 @@ kept_before p (why.PortTwice port) n m h = h.0
 kept_before p (why.PortMissing port) n m h = h.0.before
 kept_before p (why.BlockTwice node block) n m h = h.0.before.before
 kept_before p (why.Table switch f) n m h = h.0.before.before.before
-kept_before p (why.NoInterval f) n m h = h.0.before.before.before.before
-kept_before p (why.WrongEnd f) n m h = h.0.before.before.before.before
-kept_before p (why.StackEmpty f) n m h = h.0.before.before.before.before
 kept_before p (why.StackFull f) n m h = h.1.1.0.before.before.before.before
-kept_before p (why.Hops f) n m h = h.0.before.before.before.before
 kept_before p (why.SameNode v) n m h = h.0.before.before.before.before.before
 kept_before p (why.Channel c) n m h = h.0.before.before.before.before.before.before
 kept_before p (why.Usage node name) n m h = h.0.before.before.before.before.before.before.before
 kept_before p why.Memory n m h = absurd (m refl)
+kept_before p x n m h = h.0.before.before.before.before
 
 pub only_sizes : OnlySizesRefuseIt
 only_sizes p one cause acc is h m = at cause h m
@@ -528,16 +525,5 @@ only_sizes p one cause acc is h m = at cause h m
 
     at : (cause : CheckRefused) → IsCause one cause → cause ≢ why.Memory → IsSize cause
     at (why.Limit w) h m = first_broken p acc one is w h
-    at (why.PortTwice port) h m = absurd (refuse (why.PortTwice port) (λ w e. cc) h m)
-    at (why.PortMissing port) h m = absurd (refuse (why.PortMissing port) (λ w e. cc) h m)
-    at (why.BlockTwice node block) h m = absurd (refuse (why.BlockTwice node block) (λ w e. cc) h m)
-    at (why.Table switch f) h m = absurd (refuse (why.Table switch f) (λ w e. cc) h m)
-    at (why.NoInterval f) h m = absurd (refuse (why.NoInterval f) (λ w e. cc) h m)
-    at (why.WrongEnd f) h m = absurd (refuse (why.WrongEnd f) (λ w e. cc) h m)
-    at (why.StackEmpty f) h m = absurd (refuse (why.StackEmpty f) (λ w e. cc) h m)
-    at (why.StackFull f) h m = absurd (refuse (why.StackFull f) (λ w e. cc) h m)
-    at (why.Hops f) h m = absurd (refuse (why.Hops f) (λ w e. cc) h m)
-    at (why.SameNode v) h m = absurd (refuse (why.SameNode v) (λ w e. cc) h m)
-    at (why.Channel c) h m = absurd (refuse (why.Channel c) (λ w e. cc) h m)
-    at (why.Usage node name) h m = absurd (refuse (why.Usage node name) (λ w e. cc) h m)
     at why.Memory h m = absurd (m refl)
+    at x h m = absurd (refuse x (λ w e. cc) h m)

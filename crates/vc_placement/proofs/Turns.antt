@@ -63,8 +63,7 @@ ends (Taken n) v w p d = (n, refl, subst (λ z. InPhase z Idle) (sym d.1) p)
 
 stands : (h : Phase) (v w : View) → InPhase v h → Does v rendezvous.Stp w → InPhase w h
 stands Idle v w p d = subst (λ z. InPhase z Idle) (sym d) p
-stands (Offered n k) v w p d = subst (λ z. InPhase z (Offered n k)) (sym d) p
-stands (Taken n) v w p d = subst (λ z. InPhase z (Taken n)) (sym d) p
+stands q v w p d = subst (λ z. InPhase z q) (sym d) p
 
 module _ (c : ℕ) where
   -- after one communication of some node
@@ -101,15 +100,11 @@ module _ (c : ℕ) where
 
   no_out : (k : Comm) → (to_channel k).0 ≢ c → out_of c k ≡ 0
   no_out (Out d x) e = ap (λ b. if b then 1 else 0) (ne_eqb d c e)
-  no_out (In d x) e = refl
-  no_out (Fin d) e = refl
-  no_out (Stp d) e = refl
+  no_out k e = refl
 
   no_fin : (k : Comm) → (to_channel k).0 ≢ c → fin_of c k ≡ 0
-  no_fin (Out d x) e = refl
-  no_fin (In d x) e = refl
   no_fin (Fin d) e = ap (λ b. if b then 1 else 0) (ne_eqb d c e)
-  no_fin (Stp d) e = refl
+  no_fin k e = refl
 
   -- the rest comes in turn, from whatever phase it begins in
   abbrev pub Rest : List (ℕ × Comm) → View → Type 0

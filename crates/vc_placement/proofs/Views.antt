@@ -82,9 +82,7 @@ module _ (c : ℕ) where
 
   elsewhere : (n : ℕ) (k : Comm) (ks : List (ℕ × Comm)) (v u : View) → (to_channel k).0 ≢ c → Seen ks v u → Seen ((n, k) ∷ ks) v u
   elsewhere n (Out d x) ks v u e t = exchanged_shows c d n x t
-  elsewhere n (In d y) ks v u e t = shows_other e t
-  elsewhere n (Fin d) ks v u e t = shows_other e t
-  elsewhere n (Stp d) ks v u e t = shows_other e t
+  elsewhere n k ks v u e t = shows_other e t
 
   pub seen : (ks : List (ℕ × Comm)) (v u : View) → DoesAll v (on c ks) u → Seen ks v u
   seen [] v u r = subst (λ z. Shows c v.taken v.stopped [] z.taken z.stopped) (sym r) shows_end

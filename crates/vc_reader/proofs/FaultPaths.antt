@@ -7,7 +7,7 @@ use Rattle.std.specs.declared.cmp.Ordering.TheVariants.{Less, Equal, Greater}
 use Rattle.std.specs.Cmp.Lexicographic.{slice_cmp, nat_list_eq_equiv}
 use Rattle.std.proofs.lemmas.Bool.Decides.{nat_tests}
 use Rattle.std.proofs.lemmas.Map.Text.{is_eq-slice_cmp}
-use Rattle.serde_json.specs.Data.{Data, null, boolean, number, string, array, object, unsigned, negative, float, Items, no_items, item, Members, no_members, member}
+use Rattle.serde_json.specs.Data.{Data, null, number, string, array, object, unsigned, negative, float, Items, no_items, item, Members, no_members, member}
 use Rattle.serde_json.specs.Find.{at, get_member, get_item}
 use Rattle.vc_reader.specs.Faulty.{part_at, Fields, Whole, Wants, LeadsToFault, missing, other_kind, out_of_range, below_zero, unknown_name, unknown_field, further}
 use Rattle.vc_reader.specs.Names.{own_name, new_name, known_or_not, found_of, one_of}
@@ -71,11 +71,7 @@ each_told read all told before (item d ds) at =
 pub list_told : {A : Type 0} {p : List Step} (read : List A → Data → Result A Fault) → ((before : List A) (v : Data) → IsTold (p ++ Index (length before) ∷ []) v (read before v)) →
     (d : Data) → IsTold p d (read_list read d)
 list_told read told (array ds) = each_told read ds told [] ds (λ k. ap (λ n. get_item n ds) (omega arith))
-list_told read told null = kind_told null
-list_told read told (boolean b) = kind_told (boolean b)
-list_told read told (number n) = kind_told (number n)
-list_told read told (string s) = kind_told (string s)
-list_told read told (object ms) = kind_told (object ms)
+list_told read told v = kind_told v
 
 pub list_field_told : {A : Type 0} {p : List Step} (w : Word) (read : List A → Data → Result A Fault) (ms : Members) →
     ((before : List A) (v : Data) → IsTold ((p ++ Field w ∷ []) ++ Index (length before) ∷ []) v (read before v)) → IsTold p (object ms) (list_field w read (object ms))
@@ -109,10 +105,7 @@ row_told {B} {p} n rest told (array ds) = go (count ds == n) refl
     go true is = told ds (grind (arith, nat_tests))
     go false is = kind_told (array ds)
 row_told n rest told null = kind_told null
-row_told n rest told (boolean b) = kind_told (boolean b)
-row_told n rest told (number x) = kind_told (number x)
-row_told n rest told (string s) = kind_told (string s)
-row_told n rest told (object ms) = kind_told (object ms)
+row_told n rest told v = kind_told v
 
 -- an object of no other fields, and what is read of it then
 self_eq : (k : List ℕ) → slice_cmp nat_cmp k k ≡ Equal
@@ -157,19 +150,12 @@ object_told {B} {p} ws rest wants told (object ms) = go (has_only (ws (object ms
         let k = other_field (ws (object ms)) ms is in
         here (object ms) why.Unknown (unknown_field p (ws (object ms)) ms k.0 k.1 (wants (object ms)) k.2 k.3)
 object_told ws rest wants told null = kind_told null
-object_told ws rest wants told (boolean b) = kind_told (boolean b)
-object_told ws rest wants told (number n) = kind_told (number n)
-object_told ws rest wants told (string s) = kind_told (string s)
-object_told ws rest wants told (array ds) = kind_told (array ds)
+object_told ws rest wants told v = kind_told v
 
 -- texts, and what is read of them then
 pub text_told : {B : Type 0} {p : List Step} (rest : List ℕ → Result B Fault) → ((s : List ℕ) → IsTold p (string s) (rest s)) → (d : Data) → IsTold p d (read_text d >>= rest)
 text_told rest told (string s) = told s
-text_told rest told null = kind_told null
-text_told rest told (boolean b) = kind_told (boolean b)
-text_told rest told (number n) = kind_told (number n)
-text_told rest told (array ds) = kind_told (array ds)
-text_told rest told (object ms) = kind_told (object ms)
+text_told rest told v = kind_told v
 
 pub if_told : {A : Type 0} {p : List Step} (d : Data) (b : Bool) (r s : Result A Fault) → IsTold p d r → IsTold p d s → IsTold p d (if b then r else s)
 if_told d true r s x y = x
@@ -190,11 +176,7 @@ number_told {p} least most wants (number (unsigned n)) = go (nat_le least n && n
     go false is = here (number (unsigned n)) why.Range (out_of_range p least most n wants (outside least most n is))
 number_told {p} least most wants (number (negative z)) = here (number (negative z)) why.Range (below_zero p least most z wants)
 number_told least most wants (number (float x)) = kind_told (number (float x))
-number_told least most wants null = kind_told null
-number_told least most wants (boolean b) = kind_told (boolean b)
-number_told least most wants (string s) = kind_told (string s)
-number_told least most wants (array ds) = kind_told (array ds)
-number_told least most wants (object ms) = kind_told (object ms)
+number_told least most wants v = kind_told v
 
 -- names
 pub new_name_told : {p : List Step} (is_taken : List ℕ → Bool) (d : Data) → IsTold p d (new_name is_taken d)

@@ -2,7 +2,7 @@
 use Rattle.std.proofs.Common.{◌≡◌, ◌∙◌, ℕ, List, [], length, refl, sym, ap, subst, Bool, true, false, ◌&&◌, if◌then◌else◌, nat_le, Option, Ok}
 use Rattle.std.specs.Prelude.{codes}
 use Rattle.std.specs.Str.{bytes_eq}
-use Rattle.serde_json.specs.Data.{Data, null, boolean, number as number_data, string, array, object, unsigned, negative, float}
+use Rattle.serde_json.specs.Data.{Data, number as number_data, string, unsigned}
 use Rattle.vc_process.specs.declared.bytes_expression.BytesExpr.{BytesExpr}
 use Rattle.vc_process.specs.declared.bytes_expression.BytesExpr.TheVariants as bytes
 use Rattle.vc_process.specs.declared.process.Process.{Process}
@@ -55,13 +55,7 @@ few most (number_data (unsigned k)) n e = go (nat_le 0 k && nat_le k most) refl 
     go : (b : Bool) → (nat_le 0 k && nat_le k most) ≡ b → (if b then Ok k else wrong why.Range) ≡ Ok n → nat_le n most ≡ true
     go true is r = subst (λ m. nat_le m most ≡ true) (ok_is k n r) (and_right (nat_le 0 k) (nat_le k most) is)
     go false is r = absurd cc
-few most (number_data (negative z)) n e = absurd cc
-few most (number_data (float x)) n e = absurd cc
-few most null n e = absurd cc
-few most (boolean b) n e = absurd cc
-few most (string s) n e = absurd cc
-few most (array ds) n e = absurd cc
-few most (object ms) n e = absurd cc
+few most v n e = absurd cc
 
 hex_short : (d : Data) (b : BytesExpr) → read_hex d ≡ Ok b → IsShort b
 hex_short d b e =
@@ -99,11 +93,7 @@ bytes_short : (vars : List Variable) (d : Data) (b : BytesExpr) → read_bytes v
 bytes_short vars (string s) b e =
     let v = then_ok (read_variable kind.Bytes vars (string s)) (λ n. Ok (bytes.Var n)) b e in
     subst IsShort (ok_is (bytes.Var v.0) b v.2) refl
-bytes_short vars (object ms) b e = form_short (only (object ms)) b e
-bytes_short vars null b e = form_short (only null) b e
-bytes_short vars (boolean x) b e = form_short (only (boolean x)) b e
-bytes_short vars (number_data n) b e = form_short (only (number_data n)) b e
-bytes_short vars (array ds) b e = form_short (only (array ds)) b e
+bytes_short vars v b e = form_short (only v) b e
 
 value_short : (k : ValueKind) (vars : List Variable) (d : Data) (v : Value) → read_value k vars d ≡ Ok v → given_in_length (given v) ≡ true
 value_short kind.Int vars d v e =

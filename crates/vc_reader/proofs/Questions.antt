@@ -3,7 +3,7 @@ use Rattle.std.proofs.Common.{◌≡◌, ◌∙◌, ℕ, zero, suc, ◌+◌, Lis
 use Rattle.std.specs.List.{AllByRecursion}
 use Rattle.std.specs.Str.{bytes_eq}
 use Rattle.std.specs.Prelude.{codes}
-use Rattle.serde_json.specs.Data.{Data, null, boolean, number as number_data, string, array, object}
+use Rattle.serde_json.specs.Data.{Data, string}
 use Rattle.vc_process.specs.declared.condition.Cond.{Cond}
 use Rattle.vc_process.specs.declared.expression.Expr.{Expr}
 use Rattle.vc_process.specs.declared.process.Branch.{Branch}
@@ -222,11 +222,7 @@ module _ (vars : List Variable) (channels : List Channel) (a : Asking) (s : Suit
 
     step_fine : (d : Data) (p : Process) → process_step part vars channels d ≡ Ok p → IsFine a p
     step_fine (string t) p e = plain_fine t p e
-    step_fine (object ms) p e = named_fine (only (object ms)) p e
-    step_fine null p e = named_fine (only null) p e
-    step_fine (boolean b) p e = named_fine (only (boolean b)) p e
-    step_fine (number_data n) p e = named_fine (only (number_data n)) p e
-    step_fine (array ds) p e = named_fine (only (array ds)) p e
+    step_fine v p e = named_fine (only v) p e
 
   pub process_fine : (depth : ℕ) (d : Data) (p : Process) → read_process depth vars channels d ≡ Ok p → IsFine a p
   process_fine zero d p e = let t = then_ok (read_text d) read_plain p e in plain_fine t.0 p t.2

@@ -1,6 +1,6 @@
 -- What is known of a value, and of its parts, where it was read without a fault.
 use Rattle.std.proofs.Common.{◌≡◌, ◌∙◌, ℕ, ◌+◌, length, List, [], ◌∷◌, ◌++◌, refl, sym, ap, subst, arith, Option, Some, None, Result, Ok, Err}
-use Rattle.serde_json.specs.Data.{Data, null, boolean, number, string, array, object, Items, no_items, item}
+use Rattle.serde_json.specs.Data.{Data, array, Items, no_items, item}
 use Rattle.serde_json.specs.Find.{get, at}
 use Rattle.vc_plan.specs.declared.plan.Plan.{Plan}
 use Rattle.vc_labels.specs.declared.row.Row.{Row}
@@ -59,11 +59,7 @@ module _ {A : Type 0} (Has : List A → Type 0) (read : List A → Data → Resu
 
   pub list_keeps : (d : Data) (xs : List A) → Has [] → read_list read d ≡ Ok xs → Has xs
   list_keeps (array ds) xs h e = each_keeps [] ds xs h e
-  list_keeps null xs h e = absurd cc
-  list_keeps (boolean b) xs h e = absurd cc
-  list_keeps (number n) xs h e = absurd cc
-  list_keeps (string s) xs h e = absurd cc
-  list_keeps (object ms) xs h e = absurd cc
+  list_keeps v xs h e = absurd cc
 
   absent_keeps : (o : Option Data) (xs : List A) → Has [] → absent_or_list read o ≡ Ok xs → Has xs
   absent_keeps None xs h e = subst Has (ok_is [] xs e) h
@@ -90,11 +86,7 @@ each_length read before (item d ds) xs e =
 
 pub list_length : {A : Type 0} (read : List A → Data → Result A Fault) (d : Data) (xs : List A) → read_list read d ≡ Ok xs → length xs ≡ items_in d
 list_length read (array ds) xs e = let r = each_length read [] ds xs e in omega (arith, r)
-list_length read null xs e = absurd cc
-list_length read (boolean b) xs e = absurd cc
-list_length read (number n) xs e = absurd cc
-list_length read (string s) xs e = absurd cc
-list_length read (object ms) xs e = absurd cc
+list_length read v xs e = absurd cc
 
 -- the parts of a value that means a plan
 pub record Parts (d : Data) (p : Plan) : Type 0 where

@@ -5,7 +5,7 @@ use Rattle.std.specs.Str.{bytes_eq}
 use Rattle.std.proofs.Math.Nat.{min-le_left, min-eq_left}
 use Rattle.std.proofs.lemmas.Bool.Decides.{nat_tests}
 use Rattle.std.proofs.lemmas.Option.{slice_get_within, slice_get-map}
-use Rattle.serde_json.specs.Data.{Data, null, boolean, number as number_data, string, array, object}
+use Rattle.serde_json.specs.Data.{Data, boolean, number as number_data, string, array}
 use Rattle.vc_process.specs.declared.bytes_expression.BytesExpr.{BytesExpr}
 use Rattle.vc_process.specs.declared.bytes_expression.BytesExpr.TheVariants as bytes
 use Rattle.vc_process.specs.declared.condition.Cond.{Cond}
@@ -138,10 +138,7 @@ module _ (vars : List Variable) (small : length vars ≤ 64) where
   leaf_fits (string s) x e =
       let v = then_ok (read_variable kind.Int vars (string s)) (λ n. Ok (expr.Var n)) x e in
       ap (λ t. exp_fits t (kinds_of vars)) (exp_var x v.0 (sym (ok_is (expr.Var v.0) x v.2))) ∙ holds kind.Int (string s) v.0 v.1
-  leaf_fits null x e = absurd cc
-  leaf_fits (boolean b) x e = absurd cc
-  leaf_fits (array ds) x e = absurd cc
-  leaf_fits (object ms) x e = absurd cc
+  leaf_fits v x e = absurd cc
 
   size_fits : (d : Data) (x : Expr) → read_size vars d ≡ Ok x → Fits x
   size_fits d x e =
@@ -167,11 +164,7 @@ module _ (vars : List Variable) (small : length vars ≤ 64) where
 
     step_fits : (d : Data) (x : Expr) → expr_step part vars d ≡ Ok x → Fits x
     step_fits (array ds) x e = let w = then_ok (head expr_word (array ds)) (λ u. worded_expr part vars u (array ds)) x e in worded_fits w.0 (array ds) x w.2
-    step_fits (number_data n) x e = leaf_fits (number_data n) x e
-    step_fits (string s) x e = leaf_fits (string s) x e
-    step_fits null x e = leaf_fits null x e
-    step_fits (boolean b) x e = leaf_fits (boolean b) x e
-    step_fits (object ms) x e = leaf_fits (object ms) x e
+    step_fits v x e = leaf_fits v x e
 
   expr_fits : (depth : ℕ) (d : Data) (x : Expr) → read_expr depth vars d ≡ Ok x → Fits x
   expr_fits zero d x e = leaf_fits d x e
@@ -186,11 +179,7 @@ module _ (vars : List Variable) (small : length vars ≤ 64) where
 
   plain_tests : (d : Data) (c : Cond) → plain_cond d ≡ Ok c → Tests c
   plain_tests (boolean b) c e = ap (λ t. test_fits t (kinds_of vars)) (test_always c b (sym (ok_is (cond.Always b) c e)))
-  plain_tests null c e = absurd cc
-  plain_tests (number_data n) c e = absurd cc
-  plain_tests (string s) c e = absurd cc
-  plain_tests (array ds) c e = absurd cc
-  plain_tests (object ms) c e = absurd cc
+  plain_tests v c e = absurd cc
 
   comparison_tests : (rel : Rel) (d : Data) (c : Cond) → read_comparison vars rel d ≡ Ok c → Tests c
   comparison_tests rel d c e =
@@ -238,11 +227,7 @@ module _ (vars : List Variable) (small : length vars ≤ 64) where
 
     step_tests : (d : Data) (c : Cond) → cond_step part vars d ≡ Ok c → Tests c
     step_tests (array ds) c e = let w = then_ok (head cond_word (array ds)) (λ u. worded_cond part vars u (array ds)) c e in worded_tests w.0 (array ds) c w.2
-    step_tests (boolean b) c e = plain_tests (boolean b) c e
-    step_tests null c e = plain_tests null c e
-    step_tests (number_data n) c e = plain_tests (number_data n) c e
-    step_tests (string s) c e = plain_tests (string s) c e
-    step_tests (object ms) c e = plain_tests (object ms) c e
+    step_tests v c e = plain_tests v c e
 
   cond_tests : (depth : ℕ) (d : Data) (c : Cond) → read_cond depth vars d ≡ Ok c → Tests c
   cond_tests zero d c e = plain_tests d c e
@@ -283,11 +268,7 @@ module _ (vars : List Variable) (small : length vars ≤ 64) where
   bytes_given (string s) b e =
       let v = then_ok (read_variable kind.Bytes vars (string s)) (λ n. Ok (bytes.Var n)) b e in
       subst (λ (z : BytesExpr). IsGiven kind.Bytes (value.Bytes z)) (ok_is (bytes.Var v.0) b v.2) (record { fits = holds kind.Bytes (string s) v.0 v.1; kind_is = refl })
-  bytes_given (object ms) b e = form_given (only (object ms)) b e
-  bytes_given null b e = form_given (only null) b e
-  bytes_given (boolean x) b e = form_given (only (boolean x)) b e
-  bytes_given (number_data n) b e = form_given (only (number_data n)) b e
-  bytes_given (array ds) b e = form_given (only (array ds)) b e
+  bytes_given v b e = form_given (only v) b e
 
   value_given : (k : ValueKind) (d : Data) (v : Value) → read_value k vars d ≡ Ok v → IsGiven k v
   value_given kind.Int d v e =

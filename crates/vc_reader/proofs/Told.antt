@@ -3,7 +3,7 @@ use Rattle.std.proofs.Common.{◌≡◌, ℕ, ◌<◌, List, [], ◌∷◌, ◌+
 use Rattle.std.specs.Prelude.{codes}
 use Rattle.std.specs.Str.{bytes_eq}
 use Rattle.std.proofs.lemmas.Bool.Decides.{nat_tests}
-use Rattle.serde_json.specs.Data.{Data, null, boolean, number, string, array, object, Items, Members}
+use Rattle.serde_json.specs.Data.{Data, string, array, object, Items, Members}
 use Rattle.vc_labels.specs.declared.action.Action.TheVariants.{Out, Portal}
 use Rattle.vc_labels.specs.declared.row.Row.{Row}
 use Rattle.vc_process.specs.declared.value_kind.ValueKind.{ValueKind}
@@ -25,7 +25,7 @@ use Rattle.vc_reader.specs.declared.word.Word.{Word}
 use Rattle.vc_reader.specs.declared.word.Word.TheVariants as word
 use Rattle.vc_reader.specs.declared.path.Step.{Step}
 use Rattle.vc_reader.specs.declared.path.Step.TheVariants.{Field, Index}
-use Rattle.vc_reader.specs.Faulty.{Fields, Whole, Wants}
+use Rattle.vc_reader.specs.Faulty.{Fields, Wants}
 use Rattle.vc_reader.specs.Faulty as wants
 use Rattle.vc_reader.specs.Names.{new_name, has_name, known_or_not, one_of}
 use Rattle.vc_reader.specs.Network.{at_most, read_kind, read_way, read_link, read_header, read_limit, read_var, read_head, read_node, portal_word, portal_row, out_row, table_row, read_random, switch_words, is_place, read_switch, place_named, read_place, read_wire, read_end, read_vlink, vlink_number, way_home, node_home, channel_words, read_home, read_channel}
@@ -117,11 +117,7 @@ table_told n k version (array ds) = go ((version == 2) && (count ds == 3)) refl
     go : (b : Bool) → ((version == 2) && (count ds == 3)) ≡ b → IsTold (row_at n k) (array ds) (if b then portal_row (array ds) else out_row (array ds))
     go true is = portal_told n k ds (three (version == 2) (count ds) is)
     go false is = out_told n k (array ds)
-table_told n k version null = no_list n k version null refl
-table_told n k version (boolean b) = no_list n k version (boolean b) refl
-table_told n k version (number x) = no_list n k version (number x) refl
-table_told n k version (string s) = no_list n k version (string s) refl
-table_told n k version (object ms) = no_list n k version (object ms) refl
+table_told n k version v = no_list n k version v refl
 
 abbrev a_random : ℕ → ℕ → ℕ → RandomInput
 a_random link lower limit = record { link = link; lower = lower; limit = limit }

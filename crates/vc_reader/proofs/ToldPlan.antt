@@ -1,6 +1,6 @@
 -- The first fault of a network file leads to what is wrong.
 use Rattle.std.proofs.Common.{◌≡◌, ◌∙◌, ℕ, suc, ◌+◌, List, [], ◌∷◌, ◌++◌, length, refl, sym, ap, subst, arith, slice_get, Ok, Err}
-use Rattle.serde_json.specs.Data.{Data, null, boolean, number, string, array, object, Items, no_items, item, Members}
+use Rattle.serde_json.specs.Data.{Data, array, object, Items, no_items, item, Members}
 use Rattle.serde_json.specs.Find.{get_item}
 use Rattle.vc_process.specs.declared.process.Process.{Process}
 use Rattle.vc_plan.specs.declared.channel.Channel.{Channel}
@@ -31,11 +31,7 @@ AreObjects (item d ds) = ((ms : Members) × (d ≡ object ms)) × AreObjects ds
 
 is_object : (before : List Head) (d : Data) (x : Head) → read_head before d ≡ Ok x → (ms : Members) × (d ≡ object ms)
 is_object before (object ms) x e = (ms, refl)
-is_object before null x e = absurd cc
-is_object before (boolean b) x e = absurd cc
-is_object before (number n) x e = absurd cc
-is_object before (string s) x e = absurd cc
-is_object before (array ds) x e = absurd cc
+is_object before v x e = absurd cc
 
 are_objects : (before : List Head) (ds : Items) (hs : List Head) → each read_head before ds ≡ Ok hs → AreObjects ds
 are_objects before no_items hs e = tt
@@ -58,11 +54,7 @@ module _ (heads : List Head) (channels : List Channel) where
 
   list_of_told : (d : Data) (hs : List Head) → read_list read_head d ≡ Ok hs → IsTold (Field word.Nodes ∷ []) d (read_list (node_process heads channels) d)
   list_of_told (array ds) hs e = each_told ds [] ds (are_objects [] ds hs e) (λ k. ap (λ n. get_item n ds) (omega arith))
-  list_of_told null hs e = absurd cc
-  list_of_told (boolean b) hs e = absurd cc
-  list_of_told (number n) hs e = absurd cc
-  list_of_told (string s) hs e = absurd cc
-  list_of_told (object ms) hs e = absurd cc
+  list_of_told v hs e = absurd cc
 
   nodes_told : (ms : Members) → field word.Nodes (read_list read_head) (object ms) ≡ Ok heads → IsTold [] (object ms) (read_nodes heads channels (object ms))
   nodes_told ms e =

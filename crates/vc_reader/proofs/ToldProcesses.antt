@@ -4,7 +4,7 @@ use Rattle.std.specs.Prelude.{min, ◌^◌, ◌-◌, ◌*◌, pos}
 use Rattle.std.specs.Str.{bytes_eq}
 use Rattle.std.specs.Cmp.Lexicographic.{bytes_decides}
 use Rattle.std.proofs.lemmas.Bool.Decides.{nat_tests}
-use Rattle.serde_json.specs.Data.{Data, null, boolean, number, string, array, object, unsigned, negative, float, Items, no_members, member}
+use Rattle.serde_json.specs.Data.{Data, boolean, number, string, array, object, unsigned, negative, Items, no_members, member}
 use Rattle.serde_json.specs.Find.{get_member}
 use Rattle.vc_process.specs.declared.bytes_expression.BytesExpr.TheVariants as bytes
 use Rattle.vc_process.specs.declared.condition.Cond.{Cond}
@@ -37,7 +37,7 @@ use Rattle.vc_reader.specs.declared.process.ProcessWord.{ProcessWord}
 use Rattle.vc_reader.specs.declared.process.ProcessWord.TheVariants as head_of
 use Rattle.vc_reader.specs.declared.word.Word.{Word}
 use Rattle.vc_reader.specs.declared.word.Word.TheVariants as word
-use Rattle.vc_reader.specs.Faulty.{Wanted, Fields, Wants, InProcess, part, process_words, integer, message, fill_byte, fill_count, too_great, too_long, unknown_field}
+use Rattle.vc_reader.specs.Faulty.{Fields, Wants, InProcess, part, process_words, integer, message, fill_byte, fill_count, too_great, too_long, unknown_field}
 use Rattle.vc_reader.specs.Faulty as faulty
 use Rattle.vc_reader.specs.Bytes.{of_kind, read_variable, no_longer, hex_digit, hex_bytes, read_hex, read_literal, read_fill, formed_bytes, read_bytes}
 use Rattle.vc_reader.specs.Conditions.{cond_word, plain_cond, read_comparison, read_both, read_either, read_not, worded_cond, cond_step, read_cond, whole_cond}
@@ -100,19 +100,11 @@ hex_told at (string s) =
     then_told (string s) (hex_bytes s >>= no_longer) (λ xs. Ok (bytes.Lit xs))
     (then_told (string s) (hex_bytes s) no_longer (hex_bytes_told (string s) s) (λ xs e. longer_told s xs at (no_more_bytes s xs e)))
     (λ xs _. ok_told (string s) (bytes.Lit xs))
-hex_told at null = kind_told null
-hex_told at (boolean b) = kind_told (boolean b)
-hex_told at (number n) = kind_told (number n)
-hex_told at (array ds) = kind_told (array ds)
-hex_told at (object ms) = kind_told (object ms)
+hex_told at v = kind_told v
 
 literal_told : {p : List Step} → InProcess p → (d : Data) → IsTold p d (read_literal d)
 literal_told at (string s) = then_told (string s) (no_longer s) (λ xs. Ok (bytes.Lit xs)) (longer_told s s at (omega arith)) (λ xs _. ok_told (string s) (bytes.Lit xs))
-literal_told at null = kind_told null
-literal_told at (boolean b) = kind_told (boolean b)
-literal_told at (number n) = kind_told (number n)
-literal_told at (array ds) = kind_told (array ds)
-literal_told at (object ms) = kind_told (object ms)
+literal_told at v = kind_told v
 
 fill_told : {p : List Step} → InProcess p → (d : Data) → IsTold p d (read_fill d)
 fill_told {p} at = row_told 2 (λ d. cell 0 (read_number 0 255) d >>= λ b. cell 1 (read_number 0 65535) d >>= λ n. Ok (bytes.Fill b n)) (λ ds c.
@@ -125,13 +117,7 @@ TellsOnly p read = (key : List ℕ) (d : Data) → IsTold p (object (member key 
 
 only_told : {A : Type 0} {p : List Step} (read : List ℕ → Data → Result A Fault) → TellsOnly p read → (d : Data) → IsTold p d (by_only read (only d))
 only_told read told (object (member key d no_members)) = told key d
-only_told read told (object (member key d (member l e ms))) = kind_told (object (member key d (member l e ms)))
-only_told read told (object no_members) = kind_told (object no_members)
-only_told read told null = kind_told null
-only_told read told (boolean b) = kind_told (boolean b)
-only_told read told (number n) = kind_told (number n)
-only_told read told (string s) = kind_told (string s)
-only_told read told (array ds) = kind_told (array ds)
+only_told read told v = kind_told v
 
 -- what is read under the word that the field has, or else, where it has another
 word_told : {A : Type 0} {p : List Step} (w : Word) (key : List ℕ) (d : Data) (r other : Result A Fault) → IsTold (p ++ Field w ∷ []) d r →
@@ -175,10 +161,7 @@ formed_told {p} at key d =
 bytes_told : {p : List Step} (vars : List Variable) → InProcess p → (d : Data) → IsTold p d (read_bytes vars d)
 bytes_told vars at (string s) = then_told (string s) (read_variable kind.Bytes vars (string s)) (λ n. Ok (bytes.Var n)) (variable_told kind.Bytes vars (string s)) (λ n _. ok_told (string s) (bytes.Var n))
 bytes_told vars at (object ms) = only_told formed_bytes (formed_told at) (object ms)
-bytes_told vars at null = kind_told null
-bytes_told vars at (boolean b) = kind_told (boolean b)
-bytes_told vars at (number n) = kind_told (number n)
-bytes_told vars at (array ds) = kind_told (array ds)
+bytes_told vars at v = kind_told v
 
 -- ---- expressions
 
@@ -189,20 +172,12 @@ int_told {p} at (number (unsigned n)) = go (nat_lt n (2 ^ 63)) refl
     go true is = ok_told (number (unsigned n)) (pos n)
     go false is = here (number (unsigned n)) why.Range (too_great p n (integer p at) (grind (arith, nat_tests)))
 int_told at (number (negative z)) = ok_told (number (negative z)) z
-int_told at (number (float x)) = kind_told (number (float x))
-int_told at null = kind_told null
-int_told at (boolean b) = kind_told (boolean b)
-int_told at (string s) = kind_told (string s)
-int_told at (array ds) = kind_told (array ds)
-int_told at (object ms) = kind_told (object ms)
+int_told at v = kind_told v
 
 leaf_told : {p : List Step} (vars : List Variable) → InProcess p → (d : Data) → IsTold p d (read_leaf vars d)
 leaf_told vars at (number n) = then_told (number n) (read_int (number n)) (λ z. Ok (expr.Num z)) (int_told at (number n)) (λ z _. ok_told (number n) (expr.Num z))
 leaf_told vars at (string s) = then_told (string s) (read_variable kind.Int vars (string s)) (λ n. Ok (expr.Var n)) (variable_told kind.Int vars (string s)) (λ n _. ok_told (string s) (expr.Var n))
-leaf_told vars at null = kind_told null
-leaf_told vars at (boolean b) = kind_told (boolean b)
-leaf_told vars at (array ds) = kind_told (array ds)
-leaf_told vars at (object ms) = kind_told (object ms)
+leaf_told vars at v = kind_told v
 
 -- the word at the head of a list
 head_told : {A : Type 0} {p : List Step} (read : Data → Result A Fault) (ds : Items) → ((d : Data) → IsTold (p ++ Index 0 ∷ []) d (read d)) → IsTold p (array ds) (head read (array ds))
@@ -220,11 +195,7 @@ expr_word_told (string s) =
     (if_told (string s) _ (Ok (expr_head.Operator Mul)) _ (ok_told (string s) (expr_head.Operator Mul))
     (if_told (string s) _ (Ok (expr_head.Operator Div)) _ (ok_told (string s) (expr_head.Operator Div))
     (if_told (string s) _ (Ok (expr_head.Operator Rem)) (wrong why.Kind) (ok_told (string s) (expr_head.Operator Rem)) (kind_told (string s)))))))
-expr_word_told null = kind_told null
-expr_word_told (boolean b) = kind_told (boolean b)
-expr_word_told (number n) = kind_told (number n)
-expr_word_told (array ds) = kind_told (array ds)
-expr_word_told (object ms) = kind_told (object ms)
+expr_word_told v = kind_told v
 
 size_told : {p : List Step} (vars : List Variable) (d : Data) → IsTold p d (read_size vars d)
 size_told vars = row_told 2 (λ d. cell 1 (read_variable kind.Bytes vars) d >>= λ v. Ok (expr.Size v)) (λ ds c.
@@ -242,11 +213,7 @@ module _ (vars : List Variable) (read : Data → Result Expr Fault) (told : (p :
 
   expr_step_told : {p : List Step} → InProcess p → (d : Data) → IsTold p d (expr_step read vars d)
   expr_step_told at (array ds) = then_told (array ds) (head expr_word (array ds)) (λ w. worded_expr read vars w (array ds)) (head_told expr_word ds expr_word_told) (λ w _. worded_expr_told w at (array ds))
-  expr_step_told at (number n) = leaf_told vars at (number n)
-  expr_step_told at (string s) = leaf_told vars at (string s)
-  expr_step_told at null = leaf_told vars at null
-  expr_step_told at (boolean b) = leaf_told vars at (boolean b)
-  expr_step_told at (object ms) = leaf_told vars at (object ms)
+  expr_step_told at v = leaf_told vars at v
 
 expr_told : (depth : ℕ) (vars : List Variable) {p : List Step} → InProcess p → (d : Data) → IsTold p d (read_expr depth vars d)
 expr_told zero vars at d = leaf_told vars at d
@@ -268,19 +235,11 @@ cond_word_told (string s) =
     (if_told (string s) _ (Ok cond_head.Both) _ (ok_told (string s) cond_head.Both)
     (if_told (string s) _ (Ok cond_head.Either) _ (ok_told (string s) cond_head.Either)
     (if_told (string s) _ (Ok cond_head.Neither) (wrong why.Kind) (ok_told (string s) cond_head.Neither) (kind_told (string s))))))))))
-cond_word_told null = kind_told null
-cond_word_told (boolean b) = kind_told (boolean b)
-cond_word_told (number n) = kind_told (number n)
-cond_word_told (array ds) = kind_told (array ds)
-cond_word_told (object ms) = kind_told (object ms)
+cond_word_told v = kind_told v
 
 plain_cond_told : {p : List Step} (d : Data) → IsTold p d (plain_cond d)
 plain_cond_told (boolean b) = ok_told (boolean b) (cond.Always b)
-plain_cond_told null = kind_told null
-plain_cond_told (number n) = kind_told (number n)
-plain_cond_told (string s) = kind_told (string s)
-plain_cond_told (array ds) = kind_told (array ds)
-plain_cond_told (object ms) = kind_told (object ms)
+plain_cond_told v = kind_told v
 
 comparison_told : {p : List Step} (vars : List Variable) (rel : Rel) → InProcess p → (d : Data) → IsTold p d (read_comparison vars rel d)
 comparison_told {p} vars rel at = row_told 3 (λ d. cell 1 (whole_expr vars) d >>= λ a. cell 2 (whole_expr vars) d >>= λ b. Ok (cond.Cmp rel a b)) (λ ds c.
@@ -310,11 +269,7 @@ module _ (vars : List Variable) (read : Data → Result Cond Fault) (told : (p :
 
   cond_step_told : {p : List Step} → InProcess p → (d : Data) → IsTold p d (cond_step read vars d)
   cond_step_told at (array ds) = then_told (array ds) (head cond_word (array ds)) (λ w. worded_cond read vars w (array ds)) (head_told cond_word ds cond_word_told) (λ w _. worded_cond_told w at (array ds))
-  cond_step_told at (boolean b) = plain_cond_told (boolean b)
-  cond_step_told at null = plain_cond_told null
-  cond_step_told at (number n) = plain_cond_told (number n)
-  cond_step_told at (string s) = plain_cond_told (string s)
-  cond_step_told at (object ms) = plain_cond_told (object ms)
+  cond_step_told at v = plain_cond_told v
 
 cond_told : (depth : ℕ) (vars : List Variable) {p : List Step} → InProcess p → (d : Data) → IsTold p d (read_cond depth vars d)
 cond_told zero vars at d = plain_cond_told d
@@ -419,10 +374,7 @@ module _ (vars : List Variable) (channels : List Channel) (read : Data → Resul
   process_step_told : {p : List Step} → InProcess p → (d : Data) → IsTold p d (process_step read vars channels d)
   process_step_told at (string s) = plain_told (string s) s
   process_step_told at (object ms) = only_told (named_process read vars channels) (process_named_told at) (object ms)
-  process_step_told at null = kind_told null
-  process_step_told at (boolean b) = kind_told (boolean b)
-  process_step_told at (number n) = kind_told (number n)
-  process_step_told at (array ds) = kind_told (array ds)
+  process_step_told at v = kind_told v
 
 process_told : (depth : ℕ) (vars : List Variable) (channels : List Channel) {p : List Step} → InProcess p → (d : Data) → IsTold p d (read_process depth vars channels d)
 process_told zero vars channels at d = text_told read_plain (λ s. plain_told (string s) s) d

@@ -7,7 +7,7 @@ use Rattle.std.specs.Cmp.Lexicographic.{slice_cmp, bytes_decides}
 use Rattle.std.specs.List.{list_all}
 use Rattle.std.proofs.lemmas.List.Folds.{list_all-append}
 use Rattle.std.proofs.lemmas.Map.Text.{is_eq-slice_cmp}
-use Rattle.serde_json.specs.Data.{Data, null, boolean, number, string, array, object, unsigned, Members, no_members, member}
+use Rattle.serde_json.specs.Data.{Data, number, object, unsigned, Members, no_members, member}
 use Rattle.serde_json.specs.Find.{get, get_member}
 use Rattle.vc_labels.specs.declared.action.Action.TheVariants.{Out}
 use Rattle.vc_labels.specs.declared.row.Row.{Row}
@@ -54,11 +54,7 @@ lacks_field ws w (object ms) none e = go (has_only ws ms) refl e
     go : (b : Bool) → has_only ws ms ≡ b → read_object ws (object ms) ≡ Ok tt → get_member (word_text w) ms ≡ None
     go true is e = lacks ws (word_text w) ms none is
     go false is e = absurd (let c = ap (λ b. if b then Ok tt else wrong Unknown) (sym is) ∙ e in cc)
-lacks_field ws w null none e = refl
-lacks_field ws w (boolean b) none e = refl
-lacks_field ws w (number n) none e = refl
-lacks_field ws w (string s) none e = refl
-lacks_field ws w (array ds) none e = refl
+lacks_field ws w v none e = refl
 
 -- rows
 abbrev out : ℕ → ℕ → ℕ → ℕ → Row

@@ -2,8 +2,8 @@
 use Rattle.std.proofs.Common.{◌≡◌, refl}
 use Rattle.vc_actor.specs.ActorView.{act_of}
 use Rattle.vc_actor.specs.declared.act.Act.{Act}
-use Rattle.vc_actor.specs.declared.act.Act.TheVariants.{Proc, Take, Put, Route, Fct, Pass}
-use Rattle.vc_occam.specs.declared.moves.Move.TheVariants.{Offer, Want, Choose, Stopch, Inner, Quiet}
+use Rattle.vc_actor.specs.declared.act.Act.TheVariants.{Proc}
+use Rattle.vc_occam.specs.declared.moves.Move.TheVariants.{Offer}
 use Rattle.vc_stats.specs.Private.Buffers.{buffer_in}
 use Rattle.vc_stats.specs.Private.Peaks.{may_put}
 use Rattle.vc_stats.specs.Private.Times.{may_turn}
@@ -13,29 +13,12 @@ use Rattle.vc_stats.proofs.BufferEvents.{buffer_by}
 
 pub turns_by : (a : Act) → turns (act_of a) ≡ may_turn a
 turns_by (Proc (Offer site chan)) = refl
-turns_by (Proc (Want site chan)) = refl
-turns_by (Proc (Choose site guard chan)) = refl
-turns_by (Proc (Stopch site chan)) = refl
-turns_by (Proc (Inner sender receiver guard chan)) = refl
-turns_by (Proc (Quiet site)) = refl
-turns_by (Take link word) = refl
-turns_by (Put link) = refl
-turns_by (Route input output) = refl
-turns_by (Fct link) = refl
-turns_by (Pass link) = refl
+turns_by a = refl
 
 pub puts_by : (a : Act) → puts (act_of a) ≡ may_put a
 puts_by (Proc made) = refl
-puts_by (Take link word) = refl
-puts_by (Put link) = refl
-puts_by (Route input output) = refl
-puts_by (Fct link) = refl
-puts_by (Pass link) = refl
+puts_by a = refl
 
 pub buffers_by : (a : Act) → buffer_by (act_of a) ≡ buffer_in a
 buffers_by (Proc made) = refl
-buffers_by (Take link word) = refl
-buffers_by (Put link) = refl
-buffers_by (Route input output) = refl
-buffers_by (Fct link) = refl
-buffers_by (Pass link) = refl
+buffers_by a = refl

@@ -66,22 +66,10 @@ node_held plan Does n old new (Own (Proc (Stopch site c))) l h not = elim h.1 [
 node_held plan Does n old new (Own (Proc (Inner sender receiver guard c))) l h not = ap (λ (v : Vcp). held v.link l) h.4
 node_held plan Does n old new (Own (Proc (Quiet site))) l h not = ap (λ (v : Vcp). held v.link l) h.1
 node_held plan Does n old new (Own (Pass link)) l h not = passes_held (body_limit plan) (ends plan n) old.vcp new.vcp link h.0 l h.1 (λ e. not (ap Some (sym e)))
-node_held plan Does n old new (Own (Take link word)) l h not = absurd h
-node_held plan Does n old new (Own (Put link)) l h not = absurd h
-node_held plan Does n old new (Own (Route input output)) l h not = absurd h
-node_held plan Does n old new (Own (Fct link)) l h not = absurd h
 node_held plan Does n old new (Takes (Take link word) way k) l h not = comes_held old.vcp new.vcp link k l h.1 (λ e. not (ap Some (sym e)))
-node_held plan Does n old new (Takes (Proc move) way k) l h not = absurd h
-node_held plan Does n old new (Takes (Put link) way k) l h not = absurd h
-node_held plan Does n old new (Takes (Route input output) way k) l h not = absurd h
-node_held plan Does n old new (Takes (Fct link) way k) l h not = absurd h
-node_held plan Does n old new (Takes (Pass link) way k) l h not = absurd h
 node_held plan Does n old new (Puts (Put link) way k) l h not = ap (λ (v : Vcp). held v.link l) h.1.after ∙ put_link old.vcp.link link _ l refl
 node_held plan Does n old new (Puts (Fct link) way k) l h not = ap (λ (v : Vcp). held v.link l) h.2.after ∙ put_link old.vcp.link link _ l (ap (λ r. r.buffer) h.2.grants.after)
-node_held plan Does n old new (Puts (Proc move) way k) l h not = absurd h
-node_held plan Does n old new (Puts (Take link word) way k) l h not = absurd h
-node_held plan Does n old new (Puts (Route input output) way k) l h not = absurd h
-node_held plan Does n old new (Puts (Pass link) way k) l h not = absurd h
+node_held plan Does n old new d l h not = absurd h
 
 -- ---- a switch
 
@@ -102,8 +90,7 @@ beside f i x l ne = ap (λ (y : Input). y.receiver.buffer) (put-other f i x l ne
 
 token_kept : (s : Switch) (link word : ℕ) (k : Token) (l : ℕ) → (l ≡ link → ⊥) → kept (switch.with_token s link word k) l ≡ kept s l
 token_kept s link word tokens.Fct l ne = beside s.input link _ l ne
-token_kept s link word (Byte b) l ne = beside s.input link _ l ne
-token_kept s link word (EndMark m) l ne = beside s.input link _ l ne
+token_kept s link word t l ne = beside s.input link _ l ne
 
 comes_kept : (old new : Switch) (link word : ℕ) (k : Token) (l : ℕ) → switch.Comes old link word k new → (l ≡ link → ⊥) → kept new l ≡ kept old l
 comes_kept old new link word k l (switch.due is after) ne = ap (λ s. kept s l) after ∙ token_kept old link word k l ne
@@ -123,22 +110,10 @@ released_kept s link tokens.Fct l = refl
 switch_kept : (plan : Plan) (W : Waiting) (i : ℕ) (old new : Switch) (label : Label Act Token) (l : ℕ) → SwitchStep plan W i old label new → (buffer_by (act_of label) ≡ Some l → ⊥) → kept new l ≡ kept old l
 switch_kept plan W i old new (Own (Route input output)) l h not = ap (λ s. kept s l) h.after ∙ put_input old.input input _ l refl
 switch_kept plan W i old new (Own (Pass link)) l h not = passes_kept (body_limit plan) (switch_plan plan i) old new link l h (λ e. not (ap Some (sym e)))
-switch_kept plan W i old new (Own (Proc move)) l h not = absurd h
-switch_kept plan W i old new (Own (Take link word)) l h not = absurd h
-switch_kept plan W i old new (Own (Put link)) l h not = absurd h
-switch_kept plan W i old new (Own (Fct link)) l h not = absurd h
 switch_kept plan W i old new (Takes (Take link word) way k) l h not = comes_kept old new link word k l h.1 (λ e. not (ap Some (sym e)))
-switch_kept plan W i old new (Takes (Proc move) way k) l h not = absurd h
-switch_kept plan W i old new (Takes (Put link) way k) l h not = absurd h
-switch_kept plan W i old new (Takes (Route input output) way k) l h not = absurd h
-switch_kept plan W i old new (Takes (Fct link) way k) l h not = absurd h
-switch_kept plan W i old new (Takes (Pass link) way k) l h not = absurd h
 switch_kept plan W i old new (Puts (Put link) way k) l h not = ap (λ s. kept s l) h.1.after ∙ released_kept old h.1.link k l
 switch_kept plan W i old new (Puts (Fct link) way k) l h not = ap (λ s. kept s l) h.2.after ∙ put_input old.input link _ l (ap (λ r. r.buffer) h.2.grants.after)
-switch_kept plan W i old new (Puts (Proc move) way k) l h not = absurd h
-switch_kept plan W i old new (Puts (Take link word) way k) l h not = absurd h
-switch_kept plan W i old new (Puts (Route input output) way k) l h not = absurd h
-switch_kept plan W i old new (Puts (Pass link) way k) l h not = absurd h
+switch_kept plan W i old new d l h not = absurd h
 
 -- ---- all of them
 

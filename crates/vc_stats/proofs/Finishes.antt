@@ -8,13 +8,12 @@ use Rattle.vc_packets.specs.Functions.{put}
 use Rattle.vc_packets.specs.declared.packet.Packet.{Packet}
 use Rattle.vc_network.specs.Actors.{Network, ActBy, Label, Step, act_of}
 use Rattle.vc_network.specs.Actors.Label.{Own, Takes, Puts}
-use Rattle.vc_network.specs.Network.{Act, Proc, Take, Put, Route, Fct, Pass, Actor, IsNode, IsSwitch, Node, NodeStep, Local, Happens, exchanged}
+use Rattle.vc_network.specs.Network.{Act, Proc, Take, Put, Fct, Pass, Actor, IsNode, IsSwitch, Node, NodeStep, Local, Happens, exchanged}
 use Rattle.vc_network.specs.Plan.{Plan, Home, Way, Inside, home}
 use Rattle.vc_network.specs.Processes.{StepRelation, Offer, Want, Choose, Stopch, Inner, Quiet}
 use Rattle.vc_network.specs.Views.{inner_of, source_node, vcp_of, view, view_at}
 use Rattle.vc_switch.specs.Waiting.{Waiting}
-use Rattle.vc_tokens.specs.Tokens.{Token, Byte, EndMark}
-use Rattle.vc_tokens.specs.Tokens as tokens
+use Rattle.vc_tokens.specs.Tokens.{Token, EndMark}
 use Rattle.vc_vcp.specs.Carrier.{Carrier, OutHalf, End}
 use Rattle.vc_vcp.specs.Links.{Vcp, Comes, due, not_due, unqueued}
 use Rattle.vc_vcp.specs.Steps as node
@@ -39,8 +38,7 @@ comes_out old new link k (not_due is after) = ap (λ v. v.carrier.out) after
 
 unqueued_out : (a : Carrier) (link : ℕ) (rest : List Packet) (k : Token) → (unqueued a link rest k).out ≡ a.out
 unqueued_out a link rest (EndMark m) = refl
-unqueued_out a link rest (Byte b) = refl
-unqueued_out a link rest tokens.Fct = refl
+unqueued_out a link rest t = refl
 
 abbrev outs : {P : Type 0} → Node P → ℕ → OutHalf
 outs a = a.vcp.carrier.out
@@ -56,22 +54,10 @@ node_out plan Does n old new (Own (Proc (Stopch site c))) h not = elim h.1 [
 node_out plan Does n old new (Own (Proc (Inner sender receiver guard c))) h not = ap (λ v. v.carrier.out) h.4
 node_out plan Does n old new (Own (Proc (Quiet site))) h not = ap (λ v. v.carrier.out) h.1
 node_out plan Does n old new (Own (Pass link)) h not = absurd (not refl)
-node_out plan Does n old new (Own (Take link word)) h not = absurd h
-node_out plan Does n old new (Own (Put link)) h not = absurd h
-node_out plan Does n old new (Own (Route input output)) h not = absurd h
-node_out plan Does n old new (Own (Fct link)) h not = absurd h
 node_out plan Does n old new (Takes (Take link word) way k) h not = comes_out old.vcp new.vcp link k h.1
-node_out plan Does n old new (Takes (Proc move) way k) h not = absurd h
-node_out plan Does n old new (Takes (Put link) way k) h not = absurd h
-node_out plan Does n old new (Takes (Route input output) way k) h not = absurd h
-node_out plan Does n old new (Takes (Fct link) way k) h not = absurd h
-node_out plan Does n old new (Takes (Pass link) way k) h not = absurd h
 node_out plan Does n old new (Puts (Put link) way k) h not = ap (λ v. v.carrier.out) h.1.after ∙ unqueued_out old.vcp.carrier link h.1.rest k
 node_out plan Does n old new (Puts (Fct link) way k) h not = ap (λ v. v.carrier.out) h.2.after
-node_out plan Does n old new (Puts (Proc move) way k) h not = absurd h
-node_out plan Does n old new (Puts (Take link word) way k) h not = absurd h
-node_out plan Does n old new (Puts (Route input output) way k) h not = absurd h
-node_out plan Does n old new (Puts (Pass link) way k) h not = absurd h
+node_out plan Does n old new d h not = absurd h
 
 own_out : {P : Type 0} (plan : Plan) (W : Waiting) (Does : StepRelation P) (k : ℕ) (a b : Actor P) (label : Label Act Token) → Local plan W Does k a label b → (turns (act_of label) ≡ true → ⊥) →
     (vcp_of b).carrier.out ≡ (vcp_of a).carrier.out
@@ -104,22 +90,10 @@ node_inner plan Does n old new (Own (Proc (Inner sender receiver guard d))) c h 
     ap (λ f. is_open (f c)) h.5 ∙ put_open old.inner d (exchanged (old.inner d) h.0) c (one_more (old.inner d) h.0)
 node_inner plan Does n old new (Own (Proc (Quiet site))) c h = ap (λ f. is_open (f c)) h.2
 node_inner plan Does n old new (Own (Pass link)) c h = ap (λ f. is_open (f c)) h.3
-node_inner plan Does n old new (Own (Take link word)) c h = absurd h
-node_inner plan Does n old new (Own (Put link)) c h = absurd h
-node_inner plan Does n old new (Own (Route input output)) c h = absurd h
-node_inner plan Does n old new (Own (Fct link)) c h = absurd h
 node_inner plan Does n old new (Takes (Take link word) way k) c h = ap (λ f. is_open (f c)) h.2.inner
-node_inner plan Does n old new (Takes (Proc move) way k) c h = absurd h
-node_inner plan Does n old new (Takes (Put link) way k) c h = absurd h
-node_inner plan Does n old new (Takes (Route input output) way k) c h = absurd h
-node_inner plan Does n old new (Takes (Fct link) way k) c h = absurd h
-node_inner plan Does n old new (Takes (Pass link) way k) c h = absurd h
 node_inner plan Does n old new (Puts (Put link) way k) c h = ap (λ f. is_open (f c)) h.2.inner
 node_inner plan Does n old new (Puts (Fct link) way k) c h = ap (λ f. is_open (f c)) h.3.inner
-node_inner plan Does n old new (Puts (Proc move) way k) c h = absurd h
-node_inner plan Does n old new (Puts (Take link word) way k) c h = absurd h
-node_inner plan Does n old new (Puts (Route input output) way k) c h = absurd h
-node_inner plan Does n old new (Puts (Pass link) way k) c h = absurd h
+node_inner plan Does n old new d c h = absurd h
 
 own_inner : {P : Type 0} (plan : Plan) (W : Waiting) (Does : StepRelation P) (k : ℕ) (a b : Actor P) (label : Label Act Token) (c : ℕ) → Local plan W Does k a label b → is_open (inner_of b c) ≡ is_open (inner_of a c)
 own_inner plan W Does k (IsNode old) (IsNode new) label c h = node_inner plan Does k old new label c h.1

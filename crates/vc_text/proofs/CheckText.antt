@@ -2,7 +2,7 @@
 use Rattle.std.proofs.Common.{List, ℕ, Bool, true, false, Option, Some, None, Result, Ok, Err, inl}
 use Rattle.vc_plan.specs.declared.plan.Plan.{Plan as Network}
 use Rattle.vc_text.specs.declared.fault.RunFault.{RunFault}
-use Rattle.vc_text.specs.declared.fault.RunFault.TheVariants.{Read, Write, Text, Plan, Threads, Memory}
+use Rattle.vc_text.specs.declared.fault.RunFault.TheVariants.{Write, Memory}
 use Rattle.vc_text.specs.Streams.{Writes}
 use Rattle.vc_text.specs.CheckText.{ReadsAccepted, TellsAccepted}
 use Rattle.vc_text.specs.OneNode.{ReadsAs}
@@ -21,7 +21,4 @@ pub tells_accepted : (text_of : Network → List ℕ) (known old new : Option (L
 tells_accepted text_of known old new plan (Ok u) r w = (plan, r, w)
 tells_accepted text_of known old new plan (Err Write) r w = (plan, r, w)
 tells_accepted text_of known old new plan (Err Memory) r w = (memory_any known, w)
-tells_accepted text_of known old new plan (Err Read) r w = absurd w
-tells_accepted text_of known old new plan (Err (Text refused)) r w = absurd w
-tells_accepted text_of known old new plan (Err (Plan refusal)) r w = absurd w
-tells_accepted text_of known old new plan (Err (Threads why)) r w = absurd w
+tells_accepted text_of known old new plan x r w = absurd w

@@ -9,7 +9,7 @@ use Rattle.vc_actor.specs.declared.act.Act.TheVariants.{Take}
 use Rattle.vc_core.specs.declared.event.Event.{Event}
 use Rattle.vc_core.proofs.Turns.{at_rest}
 use Rattle.vc_core.specs.declared.close.Close.{Close}
-use Rattle.vc_core.specs.declared.close.Close.TheVariants.{Done, Quiet, Limit, GateClosed, ClockFull, Failed}
+use Rattle.vc_core.specs.declared.close.Close.TheVariants.{Quiet}
 use Rattle.vc_core.specs.Replay.{Reached, Replays}
 use Rattle.vc_core.specs.Still.{OnlyMoves}
 use Rattle.vc_core.proofs.Still.{only_processes_hold}
@@ -48,8 +48,4 @@ processes_wait p events s made limit Quiet r c = λ ranks.
     let reached : Reached p events s = record { is = r.is; happen = r.runs.happen } in
     let rest : OnlyMoves p s = λ e can. absurd (c.0 e can) in
     only_processes_hold p events s ranks reached rest
-processes_wait p events s made limit Done r c = tt
-processes_wait p events s made limit Limit r c = tt
-processes_wait p events s made limit GateClosed r c = tt
-processes_wait p events s made limit ClockFull r c = tt
-processes_wait p events s made limit (Failed k) r c = tt
+processes_wait p events s made limit x r c = tt

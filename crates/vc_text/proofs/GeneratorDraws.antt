@@ -5,7 +5,7 @@ use Rattle.std.proofs.lemmas.List.Concat.{flat_map-append}
 use Rattle.rand_pcg.specs.Lcg.{Lcg}
 use Rattle.rand_pcg.specs.Pcg.{pcg32}
 use Rattle.vc_actor.specs.declared.act.Act.{Act}
-use Rattle.vc_actor.specs.declared.act.Act.TheVariants.{Proc, Take, Put, Route, Fct, Pass}
+use Rattle.vc_actor.specs.declared.act.Act.TheVariants.{Take}
 use Rattle.vc_actor.specs.Turns.{TakesNone, actors}
 use Rattle.vc_core.specs.declared.event.Event.{Event}
 use Rattle.vc_plan.specs.declared.plan.Plan.{Plan}
@@ -46,11 +46,7 @@ given_words p es generators given = λ k less. (let g = given k less in (g.0, g.
 -- an act that is no take has no word
 no_word : (a : Act) → TakesNone a → take_word a ≡ []
 no_word (Take link word) none = absurd none
-no_word (Proc made) none = refl
-no_word (Put link) none = refl
-no_word (Route input output) none = refl
-no_word (Fct link) none = refl
-no_word (Pass link) none = refl
+no_word a none = refl
 
 none_either : (b : Bool) (ws : List ℕ) → ws ≡ [] → (if b then ws else []) ≡ []
 none_either true ws none = none

@@ -17,15 +17,11 @@ behind : (a : ℕ) (b : Brief) (es : List Entry) (e : Entry) (ws ws2 : List ℕ)
     words_of b + words_in es ≡ length ws → moves_of b + moves_in es ≡ length ms →
     event_at a b (ws ++ ws2) (ms ++ ms2) ∷ events_of (es ++ e ∷ []) (words_left b (ws ++ ws2)) (moves_left b (ms ++ ms2))
     ≡ event_at a b ws ms ∷ (events_of es (words_left b ws) (moves_left b ms) ++ event_at e.actor e.brief ws2 ms2 ∷ [])
-behind a (brief.Quiet site) es e ws ws2 ms ms2 rest w m = ap (λ xs. event_at a (brief.Quiet site) ws ms ∷ xs) (rest ws ms (omega (w, arith)) (omega (m, arith)))
 behind a brief.Move es e ws ws2 [] ms2 rest w m = absurd (omega (m, arith))
 behind a brief.Move es e ws ws2 (made ∷ ms) ms2 rest w m = ap (λ xs. event_at a brief.Move ws (made ∷ ms) ∷ xs) (rest ws ms (omega (w, arith)) (omega (m, arith)))
 behind a (brief.Take link) es e [] ws2 ms ms2 rest w m = absurd (omega (w, arith))
 behind a (brief.Take link) es e (word ∷ ws) ws2 ms ms2 rest w m = ap (λ xs. event_at a (brief.Take link) (word ∷ ws) ms ∷ xs) (rest ws ms (omega (w, arith)) (omega (m, arith)))
-behind a (brief.Put link) es e ws ws2 ms ms2 rest w m = ap (λ xs. event_at a (brief.Put link) ws ms ∷ xs) (rest ws ms (omega (w, arith)) (omega (m, arith)))
-behind a (brief.Route input output) es e ws ws2 ms ms2 rest w m = ap (λ xs. event_at a (brief.Route input output) ws ms ∷ xs) (rest ws ms (omega (w, arith)) (omega (m, arith)))
-behind a (brief.Fct link) es e ws ws2 ms ms2 rest w m = ap (λ xs. event_at a (brief.Fct link) ws ms ∷ xs) (rest ws ms (omega (w, arith)) (omega (m, arith)))
-behind a (brief.Pass link) es e ws ws2 ms ms2 rest w m = ap (λ xs. event_at a (brief.Pass link) ws ms ∷ xs) (rest ws ms (omega (w, arith)) (omega (m, arith)))
+behind a x es e ws ws2 ms ms2 rest w m = ap (λ xs. event_at a x ws ms ∷ xs) (rest ws ms (omega (w, arith)) (omega (m, arith)))
 
 -- one event more
 pub one_more : (es : List Entry) (e : Entry) (ws ws2 : List ℕ) (ms ms2 : List Move) → words_in es ≡ length ws → moves_in es ≡ length ms →

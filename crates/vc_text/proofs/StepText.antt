@@ -14,7 +14,7 @@ use Rattle.vc_text.specs.Streams.{Writes}
 use Rattle.vc_text.specs.Private.Streams.{WritesOne}
 use Rattle.vc_text.specs.Traffic.{traffic}
 use Rattle.vc_text.specs.declared.fault.RunFault.{RunFault}
-use Rattle.vc_text.specs.declared.fault.RunFault.TheVariants.{Read, Write, Text, Plan, Threads, Memory}
+use Rattle.vc_text.specs.declared.fault.RunFault.TheVariants.{Write, Memory}
 use Rattle.vc_text.specs.declared.run.StepReport.{StepReport}
 
 -- a fault that is handed on stays as it is
@@ -27,10 +27,7 @@ pub unwritten : (old new : Option (List ℕ)) (limit : ℕ) (plan : Network) (ev
     IsRunWithin plan limit events x close → Writes old new (traffic (channels_of plan x) close) (Err fault) → RunsPlan plan old new limit (Err fault)
 unwritten old new limit plan events x close Write ran w = (events, x, close, ran, w)
 unwritten old new limit plan events x close Memory ran w = w
-unwritten old new limit plan events x close Read ran w = absurd w
-unwritten old new limit plan events x close (Text refused) ran w = absurd w
-unwritten old new limit plan events x close (Plan refusal) ran w = absurd w
-unwritten old new limit plan events x close (Threads why) ran w = absurd w
+unwritten old new limit plan events x close y ran w = absurd w
 
 -- the plan was read, and it was run
 pub steps_by : (Reads : Result Network RunFault → Type 0) → Reads (Err Memory) → (plan : Network) (old new : Option (List ℕ)) (limit : ℕ) (result : Result StepReport RunFault) →
@@ -38,10 +35,7 @@ pub steps_by : (Reads : Result Network RunFault → Type 0) → Reads (Err Memor
 steps_by Reads memory plan old new limit (Ok report) read ran = (plan, read, ran)
 steps_by Reads memory plan old new limit (Err Write) read ran = (plan, read, ran)
 steps_by Reads memory plan old new limit (Err Memory) read ran = (memory, ran)
-steps_by Reads memory plan old new limit (Err Read) read ran = absurd ran
-steps_by Reads memory plan old new limit (Err (Text refused)) read ran = absurd ran
-steps_by Reads memory plan old new limit (Err (Plan refusal)) read ran = absurd ran
-steps_by Reads memory plan old new limit (Err (Threads why)) read ran = absurd ran
+steps_by Reads memory plan old new limit x read ran = absurd ran
 
 -- a network was read, and its processes were put on one node
 pub reads_together : (known : Option (List ℕ)) (plan : Network) (result : Result Network RunFault) → ReadsAccepted known (Ok plan) → JoinsNodes plan result → ReadsTogether known result
@@ -53,20 +47,14 @@ pub writes_one : (IsText : List ℕ → Type 0) (old new : Option (List ℕ)) (t
 writes_one IsText old new text (Ok u) is w = (text, is, w)
 writes_one IsText old new text (Err Write) is w = (text, is, w)
 writes_one IsText old new text (Err Memory) is w = w
-writes_one IsText old new text (Err Read) is w = absurd w
-writes_one IsText old new text (Err (Text refused)) is w = absurd w
-writes_one IsText old new text (Err (Plan refusal)) is w = absurd w
-writes_one IsText old new text (Err (Threads why)) is w = absurd w
+writes_one IsText old new text x is w = absurd w
 
 -- a text of a run could not be written, or there was no memory for it
 pub run_unwritten : (IsText : RunText) (old new : Option (List ℕ)) (limit : ℕ) (plan : Network) (events : List Event) (x : NetworkState) (close : Close) (fault : RunFault) →
     IsRunWithin plan limit events x close → WritesOne (IsText plan events x close) old new (Err fault) → WritesRun IsText plan old new limit (Err fault)
 run_unwritten IsText old new limit plan events x close Write ran w = (events, x, close, ran, w)
 run_unwritten IsText old new limit plan events x close Memory ran w = w
-run_unwritten IsText old new limit plan events x close Read ran w = absurd w
-run_unwritten IsText old new limit plan events x close (Text refused) ran w = absurd w
-run_unwritten IsText old new limit plan events x close (Plan refusal) ran w = absurd w
-run_unwritten IsText old new limit plan events x close (Threads why) ran w = absurd w
+run_unwritten IsText old new limit plan events x close y ran w = absurd w
 
 -- the plan was read, and it was run
 pub writes_by : (IsText : RunText) (Reads : Result Network RunFault → Type 0) → Reads (Err Memory) → (plan : Network) (old new : Option (List ℕ)) (limit : ℕ) (result : Result Close RunFault) →
@@ -74,7 +62,4 @@ pub writes_by : (IsText : RunText) (Reads : Result Network RunFault → Type 0) 
 writes_by IsText Reads memory plan old new limit (Ok close) read ran = (plan, read, ran)
 writes_by IsText Reads memory plan old new limit (Err Write) read ran = (plan, read, ran)
 writes_by IsText Reads memory plan old new limit (Err Memory) read ran = (memory, ran)
-writes_by IsText Reads memory plan old new limit (Err Read) read ran = absurd ran
-writes_by IsText Reads memory plan old new limit (Err (Text refused)) read ran = absurd ran
-writes_by IsText Reads memory plan old new limit (Err (Plan refusal)) read ran = absurd ran
-writes_by IsText Reads memory plan old new limit (Err (Threads why)) read ran = absurd ran
+writes_by IsText Reads memory plan old new limit x read ran = absurd ran

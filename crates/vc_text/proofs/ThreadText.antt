@@ -6,7 +6,7 @@ use Rattle.vc_plan.specs.declared.plan.Plan.{Plan as Network}
 use Rattle.vc_threads.specs.Threads.{IsThreadRun}
 use Rattle.vc_threads.specs.declared.report.Ending.{Ending}
 use Rattle.vc_text.specs.declared.fault.RunFault.{RunFault}
-use Rattle.vc_text.specs.declared.fault.RunFault.TheVariants.{Read, Write, Text, Plan, Threads, Memory}
+use Rattle.vc_text.specs.declared.fault.RunFault.TheVariants.{Write, Memory}
 use Rattle.vc_text.specs.RunText.{RunText}
 use Rattle.vc_text.specs.Private.Streams.{WritesOne}
 use Rattle.vc_text.specs.CheckText.{ReadsAccepted}
@@ -19,7 +19,4 @@ pub threads_unwritten : (IsText : RunText) (turns seed : ℕ) (known old new : O
     WritesOne (IsText plan events (shown (state_of e.state)) e.close) old new (Err fault) → WritesThreads IsText turns seed known old new (Err fault)
 threads_unwritten IsText turns seed known old new plan e events Write read is w = (plan, read, (e, w.0, (events, is, w.1), w.2))
 threads_unwritten IsText turns seed known old new plan e events Memory read is w = (memory_any known, w)
-threads_unwritten IsText turns seed known old new plan e events Read read is w = absurd w
-threads_unwritten IsText turns seed known old new plan e events (Text refused) read is w = absurd w
-threads_unwritten IsText turns seed known old new plan e events (Plan refusal) read is w = absurd w
-threads_unwritten IsText turns seed known old new plan e events (Threads why) read is w = absurd w
+threads_unwritten IsText turns seed known old new plan e events x read is w = absurd w

@@ -13,7 +13,7 @@ use Rattle.vc_network.specs.LocalRun.{Stamped, Turn, LocalRun, CarriesStamp, nex
 use Rattle.vc_actor.specs.ActorView.{Acting, actor_of, act_of}
 use Rattle.vc_actor.specs.Turns.{IsPut}
 use Rattle.vc_actor.specs.declared.act.Act.{Act}
-use Rattle.vc_actor.specs.declared.act.Act.TheVariants.{Proc, Take, Put, Route, Fct, Pass}
+use Rattle.vc_actor.specs.declared.act.Act.TheVariants.{Take, Put, Fct}
 use Rattle.vc_machine.specs.Paths.{Port, AtNode, AtSwitch}
 use Rattle.vc_network.specs.Network.{Local}
 use Rattle.vc_network.specs.Network as net
@@ -165,10 +165,7 @@ module _ (p : Plan) where
     put_step k link old new (Fct l) t on h =
         subst (λ x. Local (network_of p) Wormhole does k (actor_of old) (Puts (net.Fct l) (out_at k link) x) (actor_of new)) (sym h.1)
         (h.2.step (out_at k link) (subst (λ m. IsOutOf (network_of p) (out_at k link) (link_port p k m)) h.0 (goes_out (length p.wires) k link on)))
-    put_step k link old new (Proc m) t on h = absurd h
-    put_step k link old new (Take l w) t on h = absurd h
-    put_step k link old new (Pass l) t on h = absurd h
-    put_step k link old new (Route i o) t on h = absurd h
+    put_step k link old new a t on h = absurd h
 
     step_by : (k : ℕ) (old new : Acting) (l : Label Act (Stamped Token)) → IsOverWires p k l → StepsByLink (network_of p) k old (plain l) new
         → Local (network_of p) Wormhole does k (actor_of old) (plain (label_by k l)) (actor_of new)
@@ -176,17 +173,12 @@ module _ (p : Plan) where
     step_by k old new (Takes (Take by word) link s) on h =
         subst (λ b. Local (network_of p) Wormhole does k (actor_of old) (Takes (net.Take b word) (in_at k link) (token s.it)) (actor_of new)) (sym h.0)
         (h.1.step (in_at k link) (comes_in (length p.wires) k link on))
-    step_by k old new (Takes (Put l) link s) on h = absurd h
-    step_by k old new (Takes (Fct l) link s) on h = absurd h
-    step_by k old new (Takes (Proc m) link s) on h = absurd h
-    step_by k old new (Takes (Pass l) link s) on h = absurd h
-    step_by k old new (Takes (Route i o) link s) on h = absurd h
     step_by k old new (Puts act link s) on h = put_step k link old new act s.it on h
+    step_by k old new d on h = absurd h
 
     stamp_by : (k clock : ℕ) (l : Label Act (Stamped Token)) → next_stamp clock (label_by k l) ≡ next_stamp clock l
     stamp_by k clock (Own act) = refl
-    stamp_by k clock (Takes act link s) = refl
-    stamp_by k clock (Puts act link s) = refl
+    stamp_by k clock d = refl
 
     carries_by : (k at : ℕ) (l : Label Act (Stamped Token)) → CarriesStamp at l → CarriesStamp at (label_by k l)
     carries_by k at (Own act) c = tt

@@ -14,7 +14,7 @@ use Rattle.vc_accepted.proofs.Elements.{there}
 use Rattle.vc_accepted.proofs.Ports.{side_of}
 use Rattle.vc_accepted.proofs.WayPorts.{link_is_at, wired}
 use Rattle.vc_network.specs.Actors.{Label, act_of}
-use Rattle.vc_network.specs.Actors.Label.{Own, Takes, Puts}
+use Rattle.vc_network.specs.Actors.Label.{Own}
 use Rattle.vc_network.specs.LocalRun.{Stamped, Turn, LocalRun, all_put, all_taken, items, restamped}
 use Rattle.vc_network.specs.Merge.{Made, part, NotAfter, IsOrdered, IsMerge}
 use Rattle.vc_network.specs.Private.Merge.{remade}
@@ -78,8 +78,7 @@ port_actor p (Switch k) l = refl
 
 act_by : (p : Plan) (k : ℕ) (l : Label Act (Stamped Token)) → code_act (act_of l) ≡ act_of (label_by p k l)
 act_by p k (Own act) = refl
-act_by p k (Takes act link s) = refl
-act_by p k (Puts act link s) = refl
+act_by p k d = refl
 
 acts_by : (p : Plan) (k : ℕ) (ts : List (Turn Act Token)) → map (restamped code_act) (map (restamped act_of) ts) ≡ map (restamped act_of) (map (turn_by p k) ts)
 acts_by p k [] = refl

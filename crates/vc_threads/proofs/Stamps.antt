@@ -2,7 +2,7 @@
 use Rattle.std.proofs.Common.{◌≡◌, ℕ, ◌+◌, ◌<◌, Bool, true, false, List, [], ◌∷◌, map, sym, subst, ◌∙◌, arith}
 use Rattle.std.specs.List.{AllZip, AllByRecursion}
 use Rattle.vc_network.specs.Actors.{Label}
-use Rattle.vc_network.specs.Actors.Label.{Own, Takes, Puts}
+use Rattle.vc_network.specs.Actors.Label.{Own}
 use Rattle.vc_network.specs.LocalRun.{Stamped, Turn, LocalRun, next_stamp}
 use Rattle.vc_network.specs.Merge.{Rises, RunRises, StampsRise, AreDistinct, Numbered}
 use Rattle.vc_actor.specs.ActorView.{Acting}
@@ -20,8 +20,7 @@ use Rattle.vc_threads.specs.declared.run.ActorRun.{ActorRun}
 
 after : {A I : Type 0} (clock : ℕ) (l : Label A (Stamped I)) → clock < next_stamp clock l
 after clock (Own act) = omega arith
-after clock (Takes act way s) = omega arith
-after clock (Puts act way s) = omega arith
+after clock d = omega arith
 
 log_rises : (plan : Plan) (k clock : ℕ) (old new : Acting) (ts : List (Turn Act Token)) → LocalRun (StepsByLink plan) k clock old ts new → Rises clock (map of_pair (map logged ts))
 log_rises plan k clock old new [] h = tt

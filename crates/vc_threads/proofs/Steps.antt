@@ -11,7 +11,7 @@ use Rattle.vc_tokens.specs.declared.token.Token.{Token}
 use Rattle.vc_actor.specs.OfPlan.{IsActorOf}
 use Rattle.vc_actor.specs.Turns.{FindsTurn, IsPut}
 use Rattle.vc_actor.specs.declared.act.Act.{Act}
-use Rattle.vc_actor.specs.declared.act.Act.TheVariants.{Proc, Take, Put, Route, Fct, Pass}
+use Rattle.vc_actor.specs.declared.act.Act.TheVariants.{Take, Put, Fct}
 use Rattle.vc_actor.specs.ActorView.{Acting}
 use Rattle.vc_threads.specs.Runs.{StepsByLink, HasNoStep, Used, Draws, words_of, word_of}
 use Rattle.std.specs.Prelude.{None}
@@ -70,20 +70,13 @@ used_then plan k n m clock a b c ts us p q (inl e) (inl f) = inl (omega (arith, 
 put_kept : (plan : Plan) (k link : ℕ) (old : Acting) (act : Act) (item : Token) (new : Acting) → IsPut plan k old link act item new → IsActorOf plan k new
 put_kept plan k link old (Put l) item new p = p.1.kept
 put_kept plan k link old (Fct l) item new p = p.2.kept
-put_kept plan k link old (Proc m) item new p = absurd p
-put_kept plan k link old (Take l w) item new p = absurd p
-put_kept plan k link old (Pass l) item new p = absurd p
-put_kept plan k link old (Route i o) item new p = absurd p
+put_kept plan k link old a item new p = absurd p
 
 step_kept : (plan : Plan) (k : ℕ) (old : Acting) (label : Label Act Token) (new : Acting) → StepsByLink plan k old label new → IsActorOf plan k new
 step_kept plan k old (Own act) new p = p.kept
 step_kept plan k old (Takes (Take by word) link t) new p = p.1.kept
-step_kept plan k old (Takes (Put l) link t) new p = absurd p
-step_kept plan k old (Takes (Fct l) link t) new p = absurd p
-step_kept plan k old (Takes (Proc m) link t) new p = absurd p
-step_kept plan k old (Takes (Pass l) link t) new p = absurd p
-step_kept plan k old (Takes (Route i o) link t) new p = absurd p
 step_kept plan k old (Puts act link t) new p = put_kept plan k link old act t new p
+step_kept plan k old d new p = absurd p
 
 -- a run leaves a node of the plan
 pub run_kept : (plan : Plan) (k clock : ℕ) (old : Acting) (ts : List (Turn Act Token)) (new : Acting)
@@ -93,9 +86,7 @@ run_kept plan k clock old (t ∷ ts) new p h = run_kept plan k t.at p.0 ts new p
 
 -- a node that has no act for its turn has no step of its own
 pub finds_quiet : (plan : Plan) (k : ℕ) (n : Acting) (room : ℕ) → FindsTurn plan k n room None → HasNoStep plan k n
-finds_quiet plan k n room f (Proc m) own can = f (Proc m) (record { can = can; lets = tt })
-finds_quiet plan k n room f (Pass l) own can = f (Pass l) (record { can = can; lets = tt })
 finds_quiet plan k n room f (Take l w) own can = absurd own
 finds_quiet plan k n room f (Put l) own can = absurd own
 finds_quiet plan k n room f (Fct l) own can = absurd own
-finds_quiet plan k n room f (Route i o) own can = f (Route i o) (record { can = can; lets = tt })
+finds_quiet plan k n room f x own can = f x (record { can = can; lets = tt })

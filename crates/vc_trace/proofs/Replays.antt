@@ -4,7 +4,7 @@ use Rattle.vc_plan.specs.declared.plan.Plan.{Plan as Network}
 use Rattle.vc_reader.proofs.DistinctNames.{names_differ}
 use Rattle.vc_text.specs.CheckText.{ReadsAccepted}
 use Rattle.vc_text.specs.declared.fault.RunFault.{RunFault}
-use Rattle.vc_text.specs.declared.fault.RunFault.TheVariants.{Read, Write, Text, Plan, Threads, Memory}
+use Rattle.vc_text.specs.declared.fault.RunFault.TheVariants.{Read, Write, Memory}
 use Rattle.vc_text.proofs.CheckText.{memory_any}
 use Rattle.vc_trace.specs.Replay.{NamesDiffer, Replays, ReplaysPlan}
 use Rattle.vc_trace.specs.declared.replayed.Replayed.{Replayed}
@@ -24,6 +24,4 @@ replays_by why network known old new p (Ok answer) read ran = (p, (read, read_na
 replays_by why network known old new p (Err Write) read ran = (p, (read, read_names network p read), ran)
 replays_by why network known old new p (Err Memory) read ran = (memory_any network, ran.1)
 replays_by why network known old new p (Err Read) read ran = (fails_any network, ran.1)
-replays_by why network known old new p (Err (Text refused)) read ran = absurd ran.0
-replays_by why network known old new p (Err (Plan refusal)) read ran = absurd ran.0
-replays_by why network known old new p (Err (Threads cause)) read ran = absurd ran.0
+replays_by why network known old new p x read ran = absurd ran.0

@@ -35,19 +35,11 @@ words_of_move p (move.Quiet site) = decimal site ∷ []
 
 pub move_begins : (p : Plan) (made : Move) → move_words p made ≡ move_word (verb_of_move made) ∷ words_of_move p made
 move_begins p (move.Offer site chan) = refl
-move_begins p (move.Want site chan) = refl
-move_begins p (move.Choose site guard chan) = refl
-move_begins p (move.Stopch site chan) = refl
-move_begins p (move.Inner sender receiver guard chan) = refl
-move_begins p (move.Quiet site) = refl
+move_begins p m = refl
 
 pub word_of_move : (verb : MoveVerb) → IsWord (move_word verb)
 word_of_move Offer = refl
-word_of_move Want = refl
-word_of_move Choose = refl
-word_of_move Stopch = refl
-word_of_move Inner = refl
-word_of_move Quiet = refl
+word_of_move x = refl
 
 -- ---- acts
 
@@ -69,19 +61,11 @@ words_of p (act.Pass link) = decimal link ∷ []
 
 pub act_begins : (p : Plan) (done : Act) → act_words p done ≡ verb_word (verb_of done) ∷ words_of p done
 act_begins p (act.Proc made) = refl
-act_begins p (act.Take link word) = refl
-act_begins p (act.Put link) = refl
-act_begins p (act.Route input output) = refl
-act_begins p (act.Fct link) = refl
-act_begins p (act.Pass link) = refl
+act_begins p a = refl
 
 pub word_of : (verb : Verb) → IsWord (verb_word verb)
 word_of Proc = refl
-word_of Take = refl
-word_of Put = refl
-word_of Route = refl
-word_of Fct = refl
-word_of Pass = refl
+word_of x = refl
 
 -- what is found behind each verb
 pub proc_only : (p : Plan) (done : Act) (found : Option Act) (rest : List ℕ) → verb_of done ≡ Proc → IsActOf p done → rest ≡ spaced (words_of p done) →

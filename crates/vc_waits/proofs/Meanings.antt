@@ -13,7 +13,7 @@ use Rattle.vc_occam.specs.declared.blocked.Blocked.TheVariants as at
 use Rattle.vc_occam.specs.declared.moves.Move.{Move}
 use Rattle.vc_occam.specs.declared.moves.Move.TheVariants as move
 use Rattle.vc_process.proofs.Lists.{at_front, none, only}
-use Rattle.vc_process.specs.Syntax.{Proc, SKIP, STOP, Assign, Output, Input, StopChan, SEQ, PAR, IF, WHILE, COUNT, ALT, Test, Guards, no_guards, guard}
+use Rattle.vc_process.specs.Syntax.{Proc, STOP, Output, Input, ALT, Test, Guards, no_guards, guard}
 use Rattle.vc_process.specs.Usage.{Set}
 use Rattle.vc_process.specs.Values.{Store, datum_of, holds}
 use Rattle.vc_waits.specs.Meaning.{HasStopped, IsSo, WordsAreSo}
@@ -25,10 +25,7 @@ so_left mine r q e (at.Output i c) (inr h) = inr (Contains-append_left (waiting 
 so_left mine r q e (at.Input i c) (inl h) = inl (Contains-append_left (own r e) (own q e) (move.Want i c) h)
 so_left mine r q e (at.Input i c) (inr h) = inr (Contains-append_left (waiting r) (waiting q) (input i c) h)
 so_left mine r q e (at.Guard i c) (k, h) = (k, Contains-append_left (own r e) (own q e) (move.Choose i k c) h)
-so_left mine r q e (at.Closed i) h = tt
-so_left mine r q e (at.Undecided i) h = tt
-so_left mine r q e (at.Stop i) h = tt
-so_left mine r q e (at.Stopped i) h = tt
+so_left mine r q e b h = tt
 
 so_right : (mine : Set) (r q : Rest) (e : Store) (b : Blocked) → IsSo q e b → IsSo (Beside mine r q) e b
 so_right mine r q e (at.Output i c) (inl h) = inl (Contains-append_right (own r e) (own q e) (move.Offer i c) h)
@@ -36,10 +33,7 @@ so_right mine r q e (at.Output i c) (inr h) = inr (Contains-append_right (waitin
 so_right mine r q e (at.Input i c) (inl h) = inl (Contains-append_right (own r e) (own q e) (move.Want i c) h)
 so_right mine r q e (at.Input i c) (inr h) = inr (Contains-append_right (waiting r) (waiting q) (input i c) h)
 so_right mine r q e (at.Guard i c) (k, h) = (k, Contains-append_right (own r e) (own q e) (move.Choose i k c) h)
-so_right mine r q e (at.Closed i) h = tt
-so_right mine r q e (at.Undecided i) h = tt
-so_right mine r q e (at.Stop i) h = tt
-so_right mine r q e (at.Stopped i) h = tt
+so_right mine r q e b h = tt
 
 -- a guard that is shown is open, and can be taken
 abbrev IsOpenAt : ℕ → ℕ → Guards → Store → Blocked → Type 0
@@ -80,14 +74,7 @@ fresh_so (STOP i) e b h = subst (IsSo (Fresh (STOP i)) e) (only (at.Stop i) b h)
 fresh_so (Output i c a) e b h = output_so i c b (is_some (datum_of a e)) (Fresh (Output i c a)) e refl h
 fresh_so (Input i c v) e b h = subst (IsSo (Fresh (Input i c v)) e) (only (at.Input i c) b h) (inl (at_front (move.Want i c) []))
 fresh_so (ALT i gs) e b h = alt_so i gs b (all_decided gs e) (Fresh (ALT i gs)) e refl h
-fresh_so (SKIP i) e b h = absurd (none b h)
-fresh_so (Assign i v a) e b h = absurd (none b h)
-fresh_so (StopChan i c) e b h = absurd (none b h)
-fresh_so (SEQ i ps) e b h = absurd (none b h)
-fresh_so (PAR i ps) e b h = absurd (none b h)
-fresh_so (IF i bs) e b h = absurd (none b h)
-fresh_so (WHILE i t p) e b h = absurd (none b h)
-fresh_so (COUNT i v a n p) e b h = absurd (none b h)
+fresh_so p e b h = absurd (none b h)
 
 so : (r : Rest) (e : Store) (b : Blocked) → Contains (blocked r e) b → IsSo r e b
 so Done e b h = absurd (none b h)
@@ -160,14 +147,7 @@ stops (Output i c a) e b h stop j d cs q f st = output_stops i c b (is_some (dat
 stops (Input i c v) e b h stop j d cs q f st = subst HasStopped (sym (only (at.Input i c) b h)) stop
 stops (ALT i gs) e b h stop j d cs q f (does_choose decided g w x) = alt_stops i gs e b (all_decided gs e) refl h stop decided g w
 stops (ALT i gs) e b h stop j d cs q f (waits_choose decided g w) = alt_stops i gs e b (all_decided gs e) refl h stop decided g w
-stops (SKIP i) e b h stop j d cs q f st = none b h
-stops (Assign i v a) e b h stop j d cs q f st = none b h
-stops (StopChan i c) e b h stop j d cs q f st = none b h
-stops (SEQ i ps) e b h stop j d cs q f st = none b h
-stops (PAR i ps) e b h stop j d cs q f st = none b h
-stops (IF i bs) e b h stop j d cs q f st = none b h
-stops (WHILE i t p) e b h stop j d cs q f st = none b h
-stops (COUNT i v a n p) e b h stop j d cs q f st = none b h
+stops p e b h stop j d cs q f st = none b h
 
 pub words_are_so : WordsAreSo
 words_are_so = record { waits = so; stopped = stops }

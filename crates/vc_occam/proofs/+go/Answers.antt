@@ -26,7 +26,7 @@ use Rattle.vc_occam.proofs.SiteActs.{frame_can, index_there, rolled_went, sound_
 use Rattle.vc_occam.proofs.Bodies.{branch_part, branch_went, count_goes, count_part, count_went, guard_part, guard_went, turn_ended, turn_goes, turn_part}
 use Rattle.vc_occam.proofs.PartSteps.{seq_goes, seq_part, seq_sound, seq_went}
 use Rattle.vc_occam.proofs.Pars.{task_at}
-use Rattle.vc_occam.proofs.PartChoice.{map_get}
+use Rattle.vc_occam.proofs.Views.{map_get}
 use Rattle.vc_occam.proofs.+go.Goals as goal
 
 -- a test of a place in a list, and what it says

@@ -29,12 +29,8 @@ action_on (Some m) = action.Message m
 
 -- it is no meeting inside the node
 abbrev pub IsAlone : Move → Type 0
-IsAlone (Offer i c) = Unit {0}
-IsAlone (Want i c) = Unit {0}
-IsAlone (Choose i k c) = Unit {0}
-IsAlone (Stopch i c) = Unit {0}
 IsAlone (Inner i j k c) = ⊥
-IsAlone (Quiet i) = Unit {0}
+IsAlone m = Unit {0}
 
 -- the input, or the guard of an ALT, that an output meets
 abbrev pub partner : ℕ → Option ℕ → ℕ → Move

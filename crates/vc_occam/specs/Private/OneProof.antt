@@ -4,10 +4,10 @@ use Rattle.std.specs.Prelude.{◌≡◌, ℕ, false}
 use Rattle.std.specs.Coded.{×_prop, Unit-prop}
 use Rattle.vc_occam.specs.InUse.{UseApart, UsesLawfully}
 use Rattle.vc_process.specs.Lawful.{Lawfully, LawfullyAll, LawfullyBranches, LawfullyGuards, SideBySide}
-use Rattle.vc_occam.specs.Remains.{Rest, Done, Stopped, Fresh, Finishing, Getting, Then, Turns, Beside, changes_rest}
+use Rattle.vc_occam.specs.Remains.{Rest, Fresh, Then, Turns, Beside, changes_rest}
 use Rattle.vc_occam.specs.Sites.{Disjoint, HasOwnSites, AllHaveOwnSites, PartsHaveOwnSites, BranchesHaveOwnSites, GuardsHaveOwnSites, OwnSites}
 use Rattle.vc_occam.specs.Private.Sites.{Precedes, InPreorder, PartsInPreorder, BranchesInPreorder, GuardsInPreorder}
-use Rattle.vc_process.specs.Syntax.{Proc, SKIP, STOP, Assign, Output, Input, StopChan, SEQ, PAR, IF, WHILE, COUNT, ALT, Procs, no_parts, part, Branches, no_branches, branch, Guards, no_guards, guard}
+use Rattle.vc_process.specs.Syntax.{Proc, SEQ, PAR, IF, WHILE, COUNT, ALT, Procs, no_parts, part, Branches, no_branches, branch, Guards, no_guards, guard}
 use Rattle.vc_process.specs.Usage.{Set, changes}
 
 three_prop : {A B C : Type 0} → IsProp A → IsProp B → IsProp C → IsProp (A × B × C)
@@ -24,18 +24,13 @@ Precedes-prop a b = Prim.hlevel logic.props
 
 mutual
   pub InPreorder-prop : (p : Proc) → IsProp (InPreorder p)
-  InPreorder-prop (SKIP i) = Unit-prop
-  InPreorder-prop (STOP i) = Unit-prop
-  InPreorder-prop (Assign i v a) = Unit-prop
-  InPreorder-prop (Output i c a) = Unit-prop
-  InPreorder-prop (Input i c v) = Unit-prop
-  InPreorder-prop (StopChan i c) = Unit-prop
   InPreorder-prop (SEQ i ps) = ×_prop (Precedes-prop _ _) (PartsInPreorder-prop ps)
   InPreorder-prop (PAR i ps) = ×_prop (Precedes-prop _ _) (PartsInPreorder-prop ps)
   InPreorder-prop (IF i bs) = ×_prop (Precedes-prop _ _) (BranchesInPreorder-prop bs)
   InPreorder-prop (WHILE i b p) = ×_prop (Precedes-prop _ _) (InPreorder-prop p)
   InPreorder-prop (COUNT i v a n p) = ×_prop (Precedes-prop _ _) (InPreorder-prop p)
   InPreorder-prop (ALT i gs) = ×_prop (Precedes-prop _ _) (GuardsInPreorder-prop gs)
+  InPreorder-prop p = Unit-prop
 
   PartsInPreorder-prop : (ps : Procs) → IsProp (PartsInPreorder ps)
   PartsInPreorder-prop no_parts = Unit-prop
@@ -51,18 +46,13 @@ mutual
 
 mutual
   HasOwnSites-prop : (p : Proc) → IsProp (HasOwnSites p)
-  HasOwnSites-prop (SKIP i) = Unit-prop
-  HasOwnSites-prop (STOP i) = Unit-prop
-  HasOwnSites-prop (Assign i v a) = Unit-prop
-  HasOwnSites-prop (Output i c a) = Unit-prop
-  HasOwnSites-prop (Input i c v) = Unit-prop
-  HasOwnSites-prop (StopChan i c) = Unit-prop
   HasOwnSites-prop (SEQ i ps) = AllHaveOwnSites-prop ps
   HasOwnSites-prop (PAR i ps) = PartsHaveOwnSites-prop ps
   HasOwnSites-prop (IF i bs) = BranchesHaveOwnSites-prop bs
   HasOwnSites-prop (WHILE i b p) = HasOwnSites-prop p
   HasOwnSites-prop (COUNT i v a n p) = HasOwnSites-prop p
   HasOwnSites-prop (ALT i gs) = GuardsHaveOwnSites-prop gs
+  HasOwnSites-prop p = Unit-prop
 
   AllHaveOwnSites-prop : (ps : Procs) → IsProp (AllHaveOwnSites ps)
   AllHaveOwnSites-prop no_parts = Unit-prop
@@ -81,14 +71,11 @@ mutual
   GuardsHaveOwnSites-prop (guard b c v p gs) = ×_prop (HasOwnSites-prop p) (GuardsHaveOwnSites-prop gs)
 
 pub OwnSites-prop : (r : Rest) → IsProp (OwnSites r)
-OwnSites-prop Done = Unit-prop
-OwnSites-prop (Stopped i) = Unit-prop
 OwnSites-prop (Fresh p) = HasOwnSites-prop p
-OwnSites-prop (Finishing s c) = Unit-prop
-OwnSites-prop (Getting s c v) = Unit-prop
 OwnSites-prop (Then r ps) = ×_prop (OwnSites-prop r) (AllHaveOwnSites-prop ps)
 OwnSites-prop (Turns r v b n p) = ×_prop (OwnSites-prop r) (HasOwnSites-prop p)
 OwnSites-prop (Beside mine r q) = three_prop (Disjoint-prop _ _) (OwnSites-prop r) (OwnSites-prop q)
+OwnSites-prop r = Unit-prop
 
 SideBySide-prop : (ps : Procs) → IsProp (SideBySide ps)
 SideBySide-prop ps = Prim.hlevel logic.props
@@ -98,18 +85,13 @@ unchanged-prop a v = Prim.hlevel logic.props
 
 mutual
   Lawfully-prop : (p : Proc) → IsProp (Lawfully p)
-  Lawfully-prop (SKIP i) = Unit-prop
-  Lawfully-prop (STOP i) = Unit-prop
-  Lawfully-prop (Assign i v a) = Unit-prop
-  Lawfully-prop (Output i c a) = Unit-prop
-  Lawfully-prop (Input i c v) = Unit-prop
-  Lawfully-prop (StopChan i c) = Unit-prop
   Lawfully-prop (SEQ i ps) = LawfullyAll-prop ps
   Lawfully-prop (PAR i ps) = ×_prop (SideBySide-prop ps) (LawfullyAll-prop ps)
   Lawfully-prop (IF i bs) = LawfullyBranches-prop bs
   Lawfully-prop (WHILE i b p) = Lawfully-prop p
   Lawfully-prop (COUNT i v a n p) = ×_prop (unchanged-prop (changes p) v) (Lawfully-prop p)
   Lawfully-prop (ALT i gs) = LawfullyGuards-prop gs
+  Lawfully-prop p = Unit-prop
 
   LawfullyAll-prop : (ps : Procs) → IsProp (LawfullyAll ps)
   LawfullyAll-prop no_parts = Unit-prop
@@ -127,11 +109,8 @@ UseApart-prop : (mine : Set) (r q : Rest) → IsProp (UseApart mine r q)
 UseApart-prop mine r q = Prim.hlevel logic.props
 
 pub UsesLawfully-prop : (r : Rest) → IsProp (UsesLawfully r)
-UsesLawfully-prop Done = Unit-prop
-UsesLawfully-prop (Stopped i) = Unit-prop
 UsesLawfully-prop (Fresh p) = Lawfully-prop p
-UsesLawfully-prop (Finishing s c) = Unit-prop
-UsesLawfully-prop (Getting s c v) = Unit-prop
 UsesLawfully-prop (Then r ps) = ×_prop (UsesLawfully-prop r) (LawfullyAll-prop ps)
 UsesLawfully-prop (Turns r v b n p) = four_prop (UsesLawfully-prop r) (unchanged-prop (changes_rest r) v) (unchanged-prop (changes p) v) (Lawfully-prop p)
 UsesLawfully-prop (Beside mine r q) = three_prop (UseApart-prop mine r q) (UsesLawfully-prop r) (UsesLawfully-prop q)
+UsesLawfully-prop r = Unit-prop

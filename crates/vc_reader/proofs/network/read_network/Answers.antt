@@ -13,9 +13,7 @@ use Rattle.vc_reader.proofs.network.read_network.Goals as goal
 -- the refusal of a text that means a fault
 at-fault : (text : List ℕ) (d : Data) (w : Why) (path : List Step) (r : ReadRefused) → IsUtf8 text → read text ≡ Some d → read_plan d ≡ Err (record { why = w; path = path }) → r ≡ refusal w path → Reads text (Err r)
 at-fault text d why.Missing path r u t m e = rw e (record { why = why.Missing; path = path }, (d, u, t, m), refl)
-at-fault text d why.Kind path r u t m e = rw e (record { why = why.Kind; path = path }, (d, u, t, m), refl)
-at-fault text d why.Range path r u t m e = rw e (record { why = why.Range; path = path }, (d, u, t, m), refl)
-at-fault text d why.Unknown path r u t m e = rw e (record { why = why.Unknown; path = path }, (d, u, t, m), refl)
+at-fault text d x path r u t m e = rw e (record { why = x; path = path }, (d, u, t, m), refl)
 
 pub returns : goal.returns
 returns c =

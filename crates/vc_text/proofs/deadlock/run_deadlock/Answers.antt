@@ -4,7 +4,7 @@ use Rattle.vc_plan.specs.declared.port.Port.{Port}
 use Rattle.vc_text.specs.CheckText.{ReadsAccepted}
 use Rattle.vc_text.specs.Deadlock.{IsFound, TellsDeadlock, deadlock_text}
 use Rattle.vc_text.specs.declared.fault.RunFault.{RunFault}
-use Rattle.vc_text.specs.declared.fault.RunFault.TheVariants.{Read, Write, Text, Plan, Threads, Memory}
+use Rattle.vc_text.specs.declared.fault.RunFault.TheVariants.{Write, Memory}
 use Rattle.vc_text.specs.Streams.{Writes}
 use Rattle.vc_text.proofs.CheckText.{memory_any}
 use Rattle.vc_text.proofs.deadlock.run_deadlock.Goals as goal
@@ -14,10 +14,7 @@ untold : (known old new : Option (List ℕ)) (plan : Network) (found : Option (L
     Writes old new (deadlock_text plan found) (Err fault) → TellsDeadlock known old new (Err fault)
 untold known old new plan found Write read is w = (plan, found, read, is, w)
 untold known old new plan found Memory read is w = (memory_any known, w)
-untold known old new plan found Read read is w = absurd w
-untold known old new plan found (Text refused) read is w = absurd w
-untold known old new plan found (Plan refusal) read is w = absurd w
-untold known old new plan found (Threads why) read is w = absurd w
+untold known old new plan found x read is w = absurd w
 
 -- what was written of a plan and ports that are these
 written : (old new : Option (List ℕ)) (plan p : Network) (ports items : List Port) (r q : Result (Unit {0}) RunFault) → plan ≡ p → ports ≡ items → r ≡ q →

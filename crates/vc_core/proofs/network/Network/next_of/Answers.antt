@@ -6,18 +6,14 @@ use Rattle.vc_actor.specs.Turns.{FindsOf, RoomLets, TakesNone, kind_of}
 use Rattle.vc_core.proofs.ActorLists.{unchanged}
 use Rattle.vc_core.proofs.Turns.{some_event, no_event_of, no_actor, few_links, ways_by}
 use Rattle.vc_actor.specs.declared.act.Act.{Act}
-use Rattle.vc_actor.specs.declared.act.Act.TheVariants.{Proc, Take, Put, Route, Fct, Pass}
+use Rattle.vc_actor.specs.declared.act.Act.TheVariants.{Take}
 use Rattle.vc_actor.specs.declared.act.ActKind.{ActKind}
 use Rattle.vc_core.proofs.network.Network.next_of.Goals as goal
 
 -- an act of some kind takes no token
 takes_none : (a : Act) (kind : ActKind) → kind_of a ≡ Some kind → TakesNone a
-takes_none (Proc made) kind e = tt
 takes_none (Take link word) kind e = absurd (true≢false (sym (ap is_some e)))
-takes_none (Put link) kind e = tt
-takes_none (Route input output) kind e = tt
-takes_none (Fct link) kind e = tt
-takes_none (Pass link) kind e = tt
+takes_none a kind e = tt
 
 pub returns-then-place-len-clause-finds : goal.returns-then-place-len-clause-finds
 returns-then-place-len-clause-finds c = λ p is.

@@ -13,7 +13,7 @@ use Rattle.vc_occam.specs.Private.Frames.{HasGot, HasGuard, seen_guard, seen_gua
 use Rattle.vc_occam.proofs.Bodies.{guard_body}
 use Rattle.vc_occam.proofs.GuardChoice.{bodies_sound, guard_got, the_guard}
 use Rattle.vc_occam.proofs.PartSteps.{part_is_sound}
-use Rattle.vc_occam.proofs.PartChoice.{map_get}
+use Rattle.vc_occam.proofs.Views.{map_get}
 use Rattle.vc_occam.proofs.act.Alt+Frame.take.Goals as goal
 
 -- the place is one of a guard

@@ -13,7 +13,8 @@ use Rattle.vc_occam.specs.Frames.{View, all_sound, bodies, branching, has_place,
 use Rattle.vc_occam.specs.Private.Frames.{Acted, chosen_from, seen_branch}
 use Rattle.vc_occam.proofs.PartSteps.{part_is_sound}
 use Rattle.vc_occam.proofs.Bodies.{branch_body}
-use Rattle.vc_occam.proofs.PartChoice.{branch_taken, chosen_first, map_get, no_branch_acted, not_taken, seen_tests}
+use Rattle.vc_occam.proofs.PartChoice.{branch_taken, chosen_first, no_branch_acted, not_taken, seen_tests}
+use Rattle.vc_occam.proofs.Views.{map_get}
 use Rattle.vc_occam.proofs.act.If+Frame.act.Goals as goal
 
 -- the choice among branches, as what they stand for

@@ -22,7 +22,7 @@ use Rattle.vc_occam.proofs.SiteActs.{frame_can, sound_as}
 use Rattle.vc_occam.proofs.Bodies.{branch_part, turn_part}
 use Rattle.vc_occam.proofs.PartSteps.{seq_part}
 use Rattle.vc_occam.proofs.StepsInARow.{body_lighter, branch_only, branch_steps, can_on, frame_only, frame_weight, in_a_row, part_lighter, rolled_steps, seq_only, seq_steps, seq_still_sound, seq_steps_on, stepped_only, stepped_plan, stepped_sound, turn_lighter, turn_only, turn_steps, turn_steps_off, weight}
-use Rattle.vc_occam.proofs.PartChoice.{map_get}
+use Rattle.vc_occam.proofs.Views.{map_get}
 use Rattle.vc_occam.proofs.frame.Frame.+steps.Goals as goal
 
 -- a test of a place in a list, and what it says

@@ -5,7 +5,7 @@ use Rattle.std.proofs.lemmas.List.{map-set}
 use Rattle.vc_occam.specs.Frames.{all_sound, view}
 use Rattle.vc_occam.specs.Private.Frames.{HasNext, views}
 use Rattle.vc_occam.proofs.PartSteps.{part_is_sound, seq_begun}
-use Rattle.vc_occam.proofs.PartChoice.{map_get}
+use Rattle.vc_occam.proofs.Views.{map_get}
 use Rattle.vc_occam.proofs.go.Seq+Frame.next.Goals as goal
 
 pub start-requires : goal.start-requires
