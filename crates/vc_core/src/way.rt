@@ -62,8 +62,8 @@ impl Way {
         self.queue.back().copied()
     }
 
-    /// Takes the front token off. One that stands alone is taken from the end, so that the ring's head stays where it is: where tokens come
-    /// one by one the ring never wraps around, and the branches on that are always foreseen (docs/lab).
+    /// Takes the front token off. One that stands alone is taken from the end, so that the ring's head stays where it is. While tokens come
+    /// one by one the ring does not wrap around, and its two branches on that go the same way each time (docs/lab).
     #[inline(always)]
     pub(crate) fn take_front(&mut self) -> Token
         requires { self.old ≢ [] }

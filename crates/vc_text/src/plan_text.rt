@@ -18,7 +18,8 @@ fn push_value(out: &mut Vec<u8>, value: Option<u16>) -> Result<(), Memory>
     Ok(())
 }
 
-/// Adds a passage through a switch to a text, as ` SWITCH.LINK` or ` SWITCH+VALUE.LINK`. It fails for want of memory alone.
+/// Adds a passage through a switch to a text, as ` SWITCH.LINK` or ` SWITCH+VALUE.LINK`. It fails for want of memory alone. What it has
+/// added then is not promised.
 pub fn push_hop(out: &mut Vec<u8>, plan: &Plan, hop: &Hop) -> Result<(), Memory>
     ensures { OnOk result (out.new.items ≡ out.old.items ++ hop_text plan.now hop.now) }
 {
@@ -64,7 +65,7 @@ fn push_start(out: &mut Vec<u8>, plan: &Plan, fault: &PathFault) -> Result<(), M
     push_port(out, plan, fault.start)
 }
 
-/// Adds the place where the fault of a path shows to a text. It fails for want of memory alone.
+/// Adds the place where the fault of a path shows to a text. It fails for want of memory alone. What it has added then is not promised.
 #[tactic(auto, using(std::proofs::Common::append_assoc))]
 pub fn push_last(out: &mut Vec<u8>, plan: &Plan, fault: &PathFault) -> Result<(), Memory>
     ensures { OnOk result (out.new.items ≡ out.old.items ++ last_text plan.now fault.now) }

@@ -6,7 +6,8 @@ use vc_packets::Memory;
 use vc_reader::{Path, ReadRefused, Step};
 use vc_waits::push_number;
 
-/// Adds a step of a path to a text: `/`, and the field or the index. It fails for want of memory alone.
+/// Adds a step of a path to a text: `/`, and the field or the index. It fails for want of memory alone. What it has added then is not
+/// promised.
 pub fn push_step(out: &mut Vec<u8>, step: Step) -> Result<(), Memory>
     ensures { OnOk result (out.new.items ≡ out.old.items ++ step_text step) }
 {

@@ -66,7 +66,8 @@ fn push_int(out: &mut Vec<u8>, message: &[u8]) -> Result<(), Memory>
     Ok(())
 }
 
-/// Adds a message to a text: an int in decimal, and bytes in hexadecimal, or `-` for none. It fails for want of memory alone.
+/// Adds a message to a text: an int in decimal, and bytes in hexadecimal, or `-` for none. It fails for want of memory alone. What it has
+/// added then is not promised.
 pub fn push_value(out: &mut Vec<u8>, kind: ValueKind, message: &[u8]) -> Result<(), Memory>
     ensures { OnOk result (out.new.items ≡ out.old.items ++ value_text kind message.now) }
 {
@@ -109,7 +110,8 @@ fn push_stopped(out: &mut Vec<u8>, is_stopped: bool) -> Result<(), Memory>
     Ok(())
 }
 
-/// Adds to a text how many messages of a channel were offered, taken and finished, and whether it was stopped.
+/// Adds to a text how many messages of a channel were offered, taken and finished, and whether it was stopped. It fails for want of
+/// memory alone. What it has added then is not promised.
 #[tactic(auto, using(std::proofs::Common::append_assoc))]
 pub fn push_counts(out: &mut Vec<u8>, view: &ChannelView<'_>) -> Result<(), Memory>
     ensures { OnOk result (out.new.items ≡ out.old.items ++ counts_text (shown view.now)) }

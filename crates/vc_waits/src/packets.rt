@@ -25,7 +25,8 @@ pub fn places(alloc: Global, network: &Network) -> Result<Vec<Option<Place>>, Me
     Ok(places)
 }
 
-/// Adds to a text the two ports of a wire, from the one where the packet went in. It fails for want of memory alone.
+/// Adds to a text the two ports of a wire, from the one where the packet went in. It fails for want of memory alone. What it has added
+/// then is not promised.
 #[tactic(auto, using(std::proofs::Common::append_assoc))]
 pub fn push_ports(out: &mut Vec<u8>, plan: &Plan, wire: &Wire, from_one: bool) -> Result<(), Memory>
     ensures { OnOk result (out.new.items
@@ -61,7 +62,7 @@ fn push_name(out: &mut Vec<u8>, name: &[u8]) -> Result<(), Memory>
     Ok(())
 }
 
-/// Adds to a text where a packet is. It fails for want of memory alone.
+/// Adds to a text where a packet is. It fails for want of memory alone. What it has added then is not promised.
 #[tactic(auto, using(std::proofs::Common::append_assoc))]
 pub fn push_place(out: &mut Vec<u8>, plan: &Plan, place: Place) -> Result<(), Memory>
     ensures { OnOk result (out.new.items ≡ out.old.items ++ place_text plan.now place) }

@@ -64,7 +64,7 @@ pub fn blocked_word(blocked: Blocked) -> &'static str
 }
 
 /// Adds to a text where a part of a process is that does not go on by itself, and what it waits for or how it has stopped. It fails for
-/// want of memory alone.
+/// want of memory alone. What it has added then is not promised.
 #[tactic(auto, unfolding(crate::specs::Waits::blocked_text))]
 pub fn push_blocked(
     out: &mut Vec<u8>,

@@ -108,7 +108,7 @@ fn status_of_freedom(free: bool) -> u8
 }
 
 /// Writes the line of a fault. The status is that of the fault, or of a later one in writing it.
-fn told<W: Write>(alloc: Global, fault: RunFault, writer: &mut W) -> u8
+fn tell_fault<W: Write>(alloc: Global, fault: RunFault, writer: &mut W) -> u8
     ensures { TellsFault (W.contents writer.old) (W.contents writer.new) fault result }
 {
     match write_fault(alloc, &fault, writer) {
@@ -118,7 +118,7 @@ fn told<W: Write>(alloc: Global, fault: RunFault, writer: &mut W) -> u8
 }
 
 /// Writes a text for a status. The status is that, or that of a fault in writing.
-fn told_text<W: Write>(text: &[u8], status: u8, writer: &mut W) -> u8
+fn tell_text<W: Write>(text: &[u8], status: u8, writer: &mut W) -> u8
     ensures { Tells (W.contents writer.old) (W.contents writer.new) text.now status result }
 {
     match write_text(writer, text) {
@@ -131,23 +131,23 @@ fn told_text<W: Write>(text: &[u8], status: u8, writer: &mut W) -> u8
 pub fn tell_memory<W: Write>(alloc: Global, writer: &mut W) -> u8
     ensures { TellsFault (W.contents writer.old) (W.contents writer.new) OutOfMemory result }
 {
-    told(alloc, RunFault::Memory, writer)
+    tell_fault(alloc, RunFault::Memory, writer)
 }
 
 /// Writes that the words of the command line are no text. The status is that of a bad line, or of a fault in writing it.
 pub fn tell_no_text<W: Write>(writer: &mut W) -> u8
     ensures { Tells (W.contents writer.old) (W.contents writer.new) no_text_fault 5 result }
 {
-    told_text(b"error: the command line is no UTF-8\n", BAD_LINE, writer)
+    tell_text(b"error: the command line is no UTF-8\n", BAD_LINE, writer)
 }
 
-/// What a bad line or a request for help prints.
-fn told_of_line<W: Write>(alloc: Global, fault: &LineFault, writer: &mut W) -> u8
+/// Writes what is wrong with a line, or the help that it asks for.
+fn tell_line_fault<W: Write>(alloc: Global, fault: &LineFault, writer: &mut W) -> u8
     ensures { (words : List Text) → IsFaultOf (faults words) fault.now →
         TellsLine words (W.contents writer.old) (W.contents writer.new) result }
 {
     match fault {
-        LineFault::Bad { text, status } => told_text(text.as_bytes(), *status, writer),
+        LineFault::Bad { text, status } => tell_text(text.as_bytes(), *status, writer),
         LineFault::Memory => tell_memory(alloc, writer),
     }
 }
@@ -159,7 +159,7 @@ fn check_by<R: Read, W: Write>(alloc: Global, reader: &mut R, writer: &mut W) ->
 {
     match run_check(alloc, reader, writer) {
         Ok(()) => DONE,
-        Err(fault) => told(alloc, fault, writer),
+        Err(fault) => tell_fault(alloc, fault, writer),
     }
 }
 
@@ -177,7 +177,7 @@ fn explain_by<R: Read, W: Write>(alloc: Global, reader: &mut R, writer: &mut W) 
 {
     match run_explain(alloc, reader, writer) {
         Ok(is_accepted) => status_of_acceptance(is_accepted),
-        Err(fault) => told(alloc, fault, writer),
+        Err(fault) => tell_fault(alloc, fault, writer),
     }
 }
 
@@ -188,7 +188,7 @@ fn deadlock_by<R: Read, W: Write>(alloc: Global, reader: &mut R, writer: &mut W)
 {
     match run_deadlock(alloc, reader, writer) {
         Ok(free) => status_of_freedom(free),
-        Err(fault) => told(alloc, fault, writer),
+        Err(fault) => tell_fault(alloc, fault, writer),
     }
 }
 
@@ -199,7 +199,7 @@ fn draw_plan_by<R: Read, W: Write>(alloc: Global, reader: &mut R, writer: &mut W
 {
     match run_draw(alloc, reader, writer) {
         Ok(()) => DONE,
-        Err(fault) => told(alloc, fault, writer),
+        Err(fault) => tell_fault(alloc, fault, writer),
     }
 }
 
@@ -210,7 +210,7 @@ fn draw_state_by<R: Read, W: Write>(alloc: Global, reader: &mut R, writer: &mut 
 {
     match run_draw_after(alloc, reader, writer, after) {
         Ok(_) => DONE,
-        Err(fault) => told(alloc, fault, writer),
+        Err(fault) => tell_fault(alloc, fault, writer),
     }
 }
 
@@ -263,7 +263,7 @@ fn step_by<R: Read, W: Write>(
 {
     match write_step(alloc, reader, writer, options, account) {
         Ok(close) => status_of_close(close),
-        Err(fault) => told(alloc, fault, writer),
+        Err(fault) => tell_fault(alloc, fault, writer),
     }
 }
 
@@ -301,7 +301,7 @@ fn run_by<T: Threads + Wait + Sync, R: Read, W: Write>(
 {
     match write_net(rt, alloc, reader, writer, options, account) {
         Ok(ending) => status_of_close(ending.close),
-        Err(fault) => told(alloc, fault, writer),
+        Err(fault) => tell_fault(alloc, fault, writer),
     }
 }
 
@@ -328,14 +328,14 @@ fn replay_by<T: Files, R: Read, W: Write>(
         (W.contents writer.old) (W.contents writer.new) result }
 {
     let Some(name) = events_of(alloc, words) else {
-        return told(alloc, RunFault::Memory, writer);
+        return tell_fault(alloc, RunFault::Memory, writer);
     };
     let Ok(mut file) = File::open(rt, name) else {
-        return told_text(b"fault events\n", BAD_STREAM, writer);
+        return tell_text(b"fault events\n", BAD_STREAM, writer);
     };
     match run_replay(alloc, reader, &mut file, writer, is_why) {
         Ok(replayed) => status_of_replay(replayed),
-        Err(fault) => told(alloc, fault, writer),
+        Err(fault) => tell_fault(alloc, fault, writer),
     }
 }
 
@@ -359,6 +359,6 @@ pub fn run_words<T: Files + Threads + Wait + Sync, R: Read, W: Write>(
         Ok(Line::Step { options, account }) => step_by(alloc, reader, writer, options, account),
         Ok(Line::Run { options, account }) => run_by(rt, alloc, reader, writer, options, account),
         Ok(Line::Replay { is_why }) => replay_by(rt, alloc, words, reader, writer, is_why),
-        Err(fault) => told_of_line(alloc, &fault, writer),
+        Err(fault) => tell_line_fault(alloc, &fault, writer),
     }
 }

@@ -45,4 +45,4 @@ returns-in-Ok-Replay g c =
 pub returns-in-Err : goal.returns-in-Err
 returns-in-Err g c =
     let faulty : IsFaultOf (faults (texts c.args.words.now)) c.in-Err.fault = search rules in
-    tells refl (c.told_of_line.ensures (texts c.args.words.now) faulty)
+    tells refl (c.tell_line_fault.ensures (texts c.args.words.now) faulty)

@@ -1,6 +1,6 @@
 use Rattle.std.proofs.Common.{Ok, refl, subst}
 use Rattle.vc_text.specs.Streams.{Writes}
-use Rattle.vc_words.proofs.words.told_text.Goals as goal
+use Rattle.vc_words.proofs.words.tell_text.Goals as goal
 
 pub returns-in-Ok : goal.returns-in-Ok
 returns-in-Ok g c =
