@@ -22,7 +22,7 @@ use Rattle.vc_threads.specs.declared.link.Ends.{Ends}
 use Rattle.vc_threads.specs.declared.link.Stamped.{Stamped}
 use Rattle.vc_threads.specs.declared.run.ActorRun.{ActorRun}
 use Rattle.vc_threads.specs.declared.run.Stop.{Stop}
-use Rattle.vc_threads.specs.declared.run.Stop.TheVariants.{Turns, Clock}
+use Rattle.vc_threads.specs.declared.run.Stop.TheVariants.{Turns, Gate, Clock}
 use Rattle.vc_threads.specs.Stamps.{stamped, all_stamped}
 use Rattle.vc_threads.specs.Wires.{OutLooked, InLooked, Distinct, IsAmong, Sends, Receives, out_links, in_links}
 use Rattle.vc_threads.specs.Runs.{StepsByLink, HasNoStep, Used, Draws, words_of}
@@ -287,26 +287,27 @@ pub turn_looked : (a b : Seen) (ins : List In) (rested : Option ℕ) → AllZip 
 turn_looked a b ins rested looked t = record { uses = λ plan k of. uses_looked plan k 1 a b ins looked (t.uses plan k of); rests = t.rests }
 
 pub stop_looked : (a b : Seen) (ins : List In) (why : Stop) → AllZip InLooked ins a.ins → StopsFor a b why → StopsFor (record a { ins = ins }) b why
-stop_looked a b ins why looked s = record { stays = stays_looked a b ins looked s.stays; early = s.early; full = s.full }
+stop_looked a b ins why looked s = record { stays = stays_looked a b ins looked s.stays; early = s.early; passed = s.passed; full = s.full }
 
 -- an actor of the plan stays one
 pub actor_kept : (plan : Plan) (k n : ℕ) (a b : Seen) → Uses plan k n a b → IsActorOf plan k a.actor → IsActorOf plan k b.actor
 actor_kept plan k n a b p h = run_kept plan k a.clock a.actor p.steps b.actor p.goes.run h
 
--- what a worker gives back
-pub has_run : (plan : Plan) (k n m id seed : ℕ) (a b c : WorkerState) (actor : Acting) (ends : Ends) (keeps : Bool) (r : ActorRun)
+-- what a worker gives back that made n turns
+pub has_run : (refuses : ℕ → ℕ → Type 0) (plan : Plan) (k n m id seed : ℕ) (a b c : WorkerState) (actor : Acting) (ends : Ends) (keeps : Bool) (r : ActorRun)
     → Uses plan k n (worker_state a) (worker_state b) → Stays (worker_state b) (worker_state c) → n ≤ m
     → a.actor ≡ actor → a.clock ≡ 0 → a.keeps ≡ keeps → a.acts.items ≡ [] → a.outs.ends ≡ ends.outs → a.ins ≡ ends.ins → a.words ≡ started 64 multiplier_64 seed (increment_of 64 id)
-    → r.actor ≡ c.actor → r.acts ≡ c.acts → r.ends.outs ≡ c.outs.ends → r.ends.ins ≡ c.ins → (r.stop ≡ Turns → n ≡ m) → (r.stop ≡ Clock → IsFull c.clock c.ins.items)
-    → HasRun plan k m id seed actor ends keeps r
-has_run plan k n m id seed a b c actor ends keeps r p s le actor_is clock_is keeps_is acts_is outs_is ins_is words_is actor' acts' outs' ins' turns full =
-    let few = p.few in
+    → r.actor ≡ c.actor → r.acts ≡ c.acts → r.ends.outs ≡ c.outs.ends → r.ends.ins ≡ c.ins → (r.stop ≡ Turns → n ≡ m) → (r.stop ≡ Gate → (n < m) × refuses id n) → (r.stop ≡ Clock → IsFull c.clock c.ins.items)
+    → HasRun refuses plan k m id seed actor ends keeps r
+has_run refuses plan k n m id seed a b c actor ends keeps r p s le actor_is clock_is keeps_is acts_is outs_is ins_is words_is actor' acts' outs' ins' all gate full =
     let last : r.actor ≡ b.actor = actor' ∙ s.actor in
     let outs = sends_looked p.steps a.outs.ends.items b.outs.ends.items c.outs.ends.items p.goes.outs s.outs in
     let ins = receives_looked p.steps a.ins.items b.ins.items c.ins.items p.goes.ins s.ins in
     record {
       steps = p.steps;
-      few = omega (arith, few, le);
+      made = n;
+      few = p.few;
+      within = le;
       run = subst (λ v. LocalRun (StepsByLink plan) k 0 v p.steps r.actor) actor_is
           (subst (λ w. LocalRun (StepsByLink plan) k w a.actor p.steps r.actor) clock_is
           (subst (λ v. LocalRun (StepsByLink plan) k a.clock a.actor p.steps v) (sym last) p.goes.run));
@@ -316,10 +317,11 @@ has_run plan k n m id seed a b c actor ends keeps r p s le actor_is clock_is kee
       links = subst (λ (v : Vec Out). GoOver v.items ends.ins.items p.steps) outs_is (subst (λ (v : Vec In). GoOver a.outs.ends.items v.items p.steps) ins_is p.goes.links);
       rest = b.words;
       words = subst (λ g. Draws g (words_of p.steps) b.words) words_is p.goes.words;
-      used = λ h. subst (λ j. Used plan k j 0 actor p.steps r.actor) (turns h)
-          (subst (λ v. Used plan k n 0 v p.steps r.actor) actor_is
+      used = subst (λ v. Used plan k n 0 v p.steps r.actor) actor_is
           (subst (λ w. Used plan k n w a.actor p.steps r.actor) clock_is
-          (subst (λ v. Used plan k n a.clock a.actor p.steps v) (sym last) p.used)));
+          (subst (λ v. Used plan k n a.clock a.actor p.steps v) (sym last) p.used));
+      all = all;
+      gate = gate;
       full = λ h. subst (λ (v : Vec In). IsFull (clock_after 0 p.steps) v.items) (sym ins')
           (subst (λ w. IsFull w c.ins.items) (s.clock ∙ (p.goes.clock ∙ ap (λ w. clock_after w p.steps) clock_is)) (full h));
     }

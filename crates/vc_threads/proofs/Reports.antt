@@ -45,19 +45,19 @@ use Rattle.vc_threads.proofs.Steps.{run_kept}
 use Rattle.vc_threads.proofs.Zips.{zip_length}
 
 -- the job and the run of actor n + k, where the jobs are numbered from n on
-pub record Done (turns seed n k : ℕ) (js : List Job) (rs : List ActorRun) : Type 0 where
+pub record Done (refuses : ℕ → ℕ → Type 0) (turns seed n k : ℕ) (js : List Job) (rs : List ActorRun) : Type 0 where
   pub job : Job
   pub run : ActorRun
   pub job_is : slice_get js k ≡ Some job
   pub run_is : slice_get rs k ≡ Some run
   pub id : job.id ≡ n + k
-  pub ran : Ran turns seed job run
+  pub ran : Ran refuses turns seed job run
   pub acts : run_of (map numbered rs) (n + k) ≡ map of_pair run.acts.items
 
-pub done_at : (turns seed n k : ℕ) (js : List Job) (rs : List ActorRun) → AreNumbered n (map who js) → AllZip (Ran turns seed) js rs → k < length js → Done turns seed n k js rs
-done_at turns seed n k [] rs are ran less = absurd (omega (arith, less))
-done_at turns seed n k (j ∷ js) [] are ran less = absurd ran
-done_at turns seed n zero (j ∷ js) (r ∷ rs) are ran less =
+pub done_at : (refuses : ℕ → ℕ → Type 0) (turns seed n k : ℕ) (js : List Job) (rs : List ActorRun) → AreNumbered n (map who js) → AllZip (Ran refuses turns seed) js rs → k < length js → Done refuses turns seed n k js rs
+done_at refuses turns seed n k [] rs are ran less = absurd (omega (arith, less))
+done_at refuses turns seed n k (j ∷ js) [] are ran less = absurd ran
+done_at refuses turns seed n zero (j ∷ js) (r ∷ rs) are ran less =
     let none : n ≡ n + 0 = omega arith in
     record {
       job = j;
@@ -68,8 +68,8 @@ done_at turns seed n zero (j ∷ js) (r ∷ rs) are ran less =
       ran = ran.0;
       acts = ap (λ b. if b then map of_pair r.acts.items else run_of (map numbered rs) (n + 0)) (eq-eqb r.id (n + 0) (ran.0.0 ∙ (are.0 ∙ none)));
     }
-done_at turns seed n (suc k) (j ∷ js) (r ∷ rs) are ran less =
-    let d = done_at turns seed (n + 1) k js rs are.1 ran.1 (omega (arith, less)) in
+done_at refuses turns seed n (suc k) (j ∷ js) (r ∷ rs) are ran less =
+    let d = done_at refuses turns seed (n + 1) k js rs are.1 ran.1 (omega (arith, less)) in
     let e : r.id ≡ n = ran.0.0 ∙ are.0 in
     let same : n + 1 + k ≡ n + suc k = omega arith in
     let other : (r.id == n + suc k) ≡ false = grind (arith, nat_tests) in
@@ -90,33 +90,33 @@ keeps_at b (j ∷ js) zero job here keep = let same : j ≡ job = cc in ap (λ (
 keeps_at b (j ∷ js) (suc k) job here keep = keeps_at b js k job here keep.1
 
 -- past the jobs there is no run
-pub none_past : (turns seed n i : ℕ) (js : List Job) (rs : List ActorRun) → AreNumbered n (map who js) → AllZip (Ran turns seed) js rs → n + length js ≤ i → run_of (map numbered rs) i ≡ []
-none_past turns seed n i [] [] are ran past = refl
-none_past turns seed n i [] (r ∷ rs) are ran past = absurd ran
-none_past turns seed n i (j ∷ js) [] are ran past = absurd ran
-none_past turns seed n i (j ∷ js) (r ∷ rs) are ran past =
+pub none_past : (refuses : ℕ → ℕ → Type 0) (turns seed n i : ℕ) (js : List Job) (rs : List ActorRun) → AreNumbered n (map who js) → AllZip (Ran refuses turns seed) js rs → n + length js ≤ i → run_of (map numbered rs) i ≡ []
+none_past refuses turns seed n i [] [] are ran past = refl
+none_past refuses turns seed n i [] (r ∷ rs) are ran past = absurd ran
+none_past refuses turns seed n i (j ∷ js) [] are ran past = absurd ran
+none_past refuses turns seed n i (j ∷ js) (r ∷ rs) are ran past =
     let e : r.id ≡ n = ran.0.0 ∙ are.0 in
     let less : n < i = omega (arith, past) in
     let other : (r.id == i) ≡ false = grind (arith, nat_tests) in
-    ap (λ b. if b then map of_pair r.acts.items else run_of (map numbered rs) i) other ∙ none_past turns seed (n + 1) i js rs are.1 ran.1 (omega (arith, past))
+    ap (λ b. if b then map of_pair r.acts.items else run_of (map numbered rs) i) other ∙ none_past refuses turns seed (n + 1) i js rs are.1 ran.1 (omega (arith, past))
 
-module _ (p : Plan) (turns seed : ℕ) (js : List Job) (rs : List ActorRun) (first : AreFirst p (actors p) (map actor_in js)) (are : AreNumbered 0 (map who js)) (ran : AllZip (Ran turns seed) js rs) where
+module _ (p : Plan) (refuses : ℕ → ℕ → Type 0) (turns seed : ℕ) (js : List Job) (rs : List ActorRun) (first : AreFirst p (actors p) (map actor_in js)) (are : AreNumbered 0 (map who js)) (ran : AllZip (Ran refuses turns seed) js rs) where
   pub jobs_count : length js ≡ actors p
   jobs_count = sym (length-map js actor_in) ∙ first.count
 
   pub runs_count : length rs ≡ actors p
-  runs_count = zip_length (Ran turns seed) js rs ran ∙ jobs_count
+  runs_count = zip_length (Ran refuses turns seed) js rs ran ∙ jobs_count
 
   -- the job of an actor, its run, and what the run did
   pub record Did (k : ℕ) : Type 0 where
-    pub done : Done turns seed 0 k js rs
+    pub done : Done refuses turns seed 0 k js rs
     pub begins : BeginsAs p k done.job.actor
-    pub has : HasRun (network_of p) k turns done.job.id seed done.job.actor done.job.ends done.job.keeps done.run
+    pub has : HasRun refuses (network_of p) k turns done.job.id seed done.job.actor done.job.ends done.job.keeps done.run
 
   pub did : (k : ℕ) → k < actors p → Did k
   did k less =
       let n = jobs_count in
-      let d = done_at turns seed 0 k js rs are ran (omega (arith, n, less)) in
+      let d = done_at refuses turns seed 0 k js rs are ran (omega (arith, n, less)) in
       let b = first.each k d.job.actor (slice_get-map actor_in js k ∙ ap (option_map actor_in) d.job_is) in
       record { done = d; begins = b; has = d.ran.1 (network_of p) k b.is }
 
@@ -141,7 +141,7 @@ module _ (p : Plan) (turns seed : ℕ) (js : List Job) (rs : List ActorRun) (fir
 
   picked_acts : AllKeep true (map who js) → (k : ℕ) (c : (k < actors p) ⊎ (actors p ≤ k)) → run_of (map numbered rs) k ≡ map (restamped act_of) (pick k c)
   picked_acts keep k (inl less) = did_acts keep k (did k less)
-  picked_acts keep k (inr past) = let n = jobs_count in none_past turns seed 0 k js rs are ran (omega (arith, n, past))
+  picked_acts keep k (inr past) = let n = jobs_count in none_past refuses turns seed 0 k js rs are ran (omega (arith, n, past))
 
   pub no_run : (k : ℕ) → actors p ≤ k → steps_of k ≡ []
   no_run k past = picked_none k (cases_lt k (actors p)) past
@@ -180,7 +180,7 @@ module _ (p : Plan) (turns seed : ℕ) (js : List Job) (rs : List ActorRun) (fir
   stop_is k d = get_or_from_slice_get (map stop_in rs) k d.done.run.stop Turns (slice_get-map stop_in rs k ∙ ap (option_map stop_in) d.done.run_is)
 
   module _ (wired : AreWired p (length p.wires) js) where
-    picked_run : (k : ℕ) (c : (k < actors p) ⊎ (actors p ≤ k)) → k < actors p → IsRunOf p turns seed k (pick k c) (stop_at rs k) (pick_last k c)
+    picked_run : (k : ℕ) (c : (k < actors p) ⊎ (actors p ≤ k)) → k < actors p → IsRunOf p refuses turns seed k (pick k c) (stop_at rs k) (pick_last k c)
     picked_run k (inr past) less = absurd (omega (arith, past, less))
     picked_run k (inl within) less =
         let d = did k within in
@@ -191,17 +191,21 @@ module _ (p : Plan) (turns seed : ℕ) (js : List Job) (rs : List ActorRun) (fir
           from = d.done.job.actor;
           to = d.done.run.actor;
           begins = d.begins;
+          made = d.has.made;
           few = d.has.few;
+          within = d.has.within;
           run = d.has.run;
           wires = over_wires p k (outs_in d.done.job) (ins_in d.done.job)
               (λ o h. wired.outs k o (subst (λ xs. Contains xs o) (sym outs) h)) (λ i h. wired.ins k i (subst (λ xs. Contains xs i) (sym ins) h)) d.has.steps d.has.links;
-          used = λ h. d.has.used (sym (stop_is k d) ∙ h);
+          used = d.has.used;
+          all = λ h. d.has.all (sym (stop_is k d) ∙ h);
+          gate = λ h. let refused = d.has.gate (sym (stop_is k d) ∙ h) in (refused.0, subst (λ i. refuses i d.has.made) (d.done.id ∙ at) refused.1);
           ends = refl;
           rest = d.has.rest;
           words = subst (λ i. Draws (started 64 multiplier_64 seed (increment_of 64 i)) (words_of d.has.steps) d.has.rest) (d.done.id ∙ at) d.has.words;
         }
 
-    pub each_run : (k : ℕ) → k < actors p → IsRunOf p turns seed k (steps_of k) (stop_at rs k) (last_of k)
+    pub each_run : (k : ℕ) → k < actors p → IsRunOf p refuses turns seed k (steps_of k) (stop_at rs k) (last_of k)
     each_run k less = picked_run k (cases_lt k (actors p)) less
 
   -- each actor, as its run left it, is one of the plan
@@ -229,11 +233,11 @@ module _ (p : Plan) (turns seed : ℕ) (js : List Job) (rs : List ActorRun) (fir
   ends_there k = picked_there k (cases_lt k (actors p))
 
 -- the runs stand in the order of their actors
-pub in_order : (turns seed : ℕ) (js : List Job) (rs : List ActorRun) → AreNumbered 0 (map who js) → AllZip (Ran turns seed) js rs → AreInOrder rs
-in_order turns seed js rs are ran k r here =
-    let n = zip_length (Ran turns seed) js rs ran in
+pub in_order : (refuses : ℕ → ℕ → Type 0) (turns seed : ℕ) (js : List Job) (rs : List ActorRun) → AreNumbered 0 (map who js) → AllZip (Ran refuses turns seed) js rs → AreInOrder rs
+in_order refuses turns seed js rs are ran k r here =
+    let n = zip_length (Ran refuses turns seed) js rs ran in
     let within = slice_get_within rs k r here in
-    let d = done_at turns seed 0 k js rs are ran (omega (arith, n, within)) in
+    let d = done_at refuses turns seed 0 k js rs are ran (omega (arith, n, within)) in
     let same : d.run ≡ r = some_is d.run r (sym d.run_is ∙ here) in
     let at : 0 + k ≡ k = omega arith in
     ap (λ (x : ActorRun). x.id) (sym same) ∙ (d.ran.0 ∙ (d.id ∙ at))

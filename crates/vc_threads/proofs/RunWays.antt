@@ -99,8 +99,8 @@ items_by : (ss : List (Stamped Token)) → items (map item_by ss) ≡ map token 
 items_by [] = refl
 items_by (s ∷ ss) = ap (λ ts. token s.it ∷ ts) (items_by ss)
 
-module _ (p : Plan) (acc : IsAccepted p) (turns seed : ℕ) (runs : ℕ → List (Turn Act Token)) (stops : ℕ → Stop) (last : ℕ → Actor Process)
-    (each : (k : ℕ) → k < actors p → IsRunOf p turns seed k (runs k) (stops k) (last k))
+module _ (p : Plan) (acc : IsAccepted p) (refuses : ℕ → ℕ → Type 0) (turns seed : ℕ) (runs : ℕ → List (Turn Act Token)) (stops : ℕ → Stop) (last : ℕ → Actor Process)
+    (each : (k : ℕ) → k < actors p → IsRunOf p refuses turns seed k (runs k) (stops k) (last k))
     (none : (k : ℕ) → actors p ≤ k → runs k ≡ []) (idle : (k : ℕ) → actors p ≤ k → last k ≡ first (network_of p) (begin_of p) k)
     (left : ℕ → List tokens.Token) (order : OnWays (TakesInOrder (length p.nodes) runs left) p.wires (length p.wires)) (bare : (w : ℕ) → ways (network_of p) ≤ w → left w ≡ []) where
   abbrev by_ways : ℕ → List (Turn net.Act tokens.Token)

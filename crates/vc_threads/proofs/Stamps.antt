@@ -38,33 +38,33 @@ kept_rises false acts h = tt
 pub steps_rise : (plan : Plan) (k : ℕ) (old new : Acting) (ts : List (Turn Act Token)) → LocalRun (StepsByLink plan) k 0 old ts new → StampsRise (map of_pair (map logged ts))
 steps_rise plan k old new ts h = from_rises 0 (map of_pair (map logged ts)) (log_rises plan k 0 old new ts h)
 
-one_rises : (turns seed : ℕ) (j : Job) (r : ActorRun) → IsFit j → Ran turns seed j r → RunRises (numbered r)
-one_rises turns seed j r fit ran =
+one_rises : (refuses : ℕ → ℕ → Type 0) (turns seed : ℕ) (j : Job) (r : ActorRun) → IsFit j → Ran refuses turns seed j r → RunRises (numbered r)
+one_rises refuses turns seed j r fit ran =
     let plan = fit.actor.0 in
     let k = fit.actor.1 in
     let run = ran.1 plan k fit.actor.2 in
     subst (λ xs. StampsRise (map of_pair xs)) (sym run.acts)
     (kept_rises j.keeps (map logged run.steps) (from_rises 0 (map of_pair (map logged run.steps)) (log_rises plan k 0 j.actor r.actor run.steps run.run)))
 
-pub all_rise : (turns seed : ℕ) (js : List Job) (rs : List ActorRun) → AllByRecursion IsFit js → AllZip (Ran turns seed) js rs → AllByRecursion RunRises (map numbered rs)
-all_rise turns seed [] [] fit ran = tt
-all_rise turns seed [] (r ∷ rs) fit ran = absurd ran
-all_rise turns seed (j ∷ js) [] fit ran = absurd ran
-all_rise turns seed (j ∷ js) (r ∷ rs) fit ran = (one_rises turns seed j r fit.0 ran.0, all_rise turns seed js rs fit.1 ran.1)
+pub all_rise : (refuses : ℕ → ℕ → Type 0) (turns seed : ℕ) (js : List Job) (rs : List ActorRun) → AllByRecursion IsFit js → AllZip (Ran refuses turns seed) js rs → AllByRecursion RunRises (map numbered rs)
+all_rise refuses turns seed [] [] fit ran = tt
+all_rise refuses turns seed [] (r ∷ rs) fit ran = absurd ran
+all_rise refuses turns seed (j ∷ js) [] fit ran = absurd ran
+all_rise refuses turns seed (j ∷ js) (r ∷ rs) fit ran = (one_rises refuses turns seed j r fit.0 ran.0, all_rise refuses turns seed js rs fit.1 ran.1)
 
 -- an actor that comes before those numbered from n on is none of them
-apart : (turns seed i n : ℕ) (js : List Job) (rs : List ActorRun) → i < n → AreNumbered n (map who js) → AllZip (Ran turns seed) js rs → AllByRecursion (λ (s : Numbered Act). i ≡ s.actor → ⊥) (map numbered rs)
-apart turns seed i n [] [] less is ran = tt
-apart turns seed i n [] (r ∷ rs) less is ran = absurd ran
-apart turns seed i n (j ∷ js) [] less is ran = absurd ran
-apart turns seed i n (j ∷ js) (r ∷ rs) less is ran =
+apart : (refuses : ℕ → ℕ → Type 0) (turns seed i n : ℕ) (js : List Job) (rs : List ActorRun) → i < n → AreNumbered n (map who js) → AllZip (Ran refuses turns seed) js rs → AllByRecursion (λ (s : Numbered Act). i ≡ s.actor → ⊥) (map numbered rs)
+apart refuses turns seed i n [] [] less is ran = tt
+apart refuses turns seed i n [] (r ∷ rs) less is ran = absurd ran
+apart refuses turns seed i n (j ∷ js) [] less is ran = absurd ran
+apart refuses turns seed i n (j ∷ js) (r ∷ rs) less is ran =
     let e : r.id ≡ n = ran.0.0 ∙ is.0 in
-    ((λ same. omega (arith, e, same, less)), apart turns seed i (n + 1) js rs (omega (arith, less)) is.1 ran.1)
+    ((λ same. omega (arith, e, same, less)), apart refuses turns seed i (n + 1) js rs (omega (arith, less)) is.1 ran.1)
 
-pub all_apart : (turns seed n : ℕ) (js : List Job) (rs : List ActorRun) → AreNumbered n (map who js) → AllZip (Ran turns seed) js rs → AreDistinct (map numbered rs)
-all_apart turns seed n [] [] is ran = tt
-all_apart turns seed n [] (r ∷ rs) is ran = absurd ran
-all_apart turns seed n (j ∷ js) [] is ran = absurd ran
-all_apart turns seed n (j ∷ js) (r ∷ rs) is ran =
+pub all_apart : (refuses : ℕ → ℕ → Type 0) (turns seed n : ℕ) (js : List Job) (rs : List ActorRun) → AreNumbered n (map who js) → AllZip (Ran refuses turns seed) js rs → AreDistinct (map numbered rs)
+all_apart refuses turns seed n [] [] is ran = tt
+all_apart refuses turns seed n [] (r ∷ rs) is ran = absurd ran
+all_apart refuses turns seed n (j ∷ js) [] is ran = absurd ran
+all_apart refuses turns seed n (j ∷ js) (r ∷ rs) is ran =
     let e : r.id ≡ n = ran.0.0 ∙ is.0 in
-    (subst (λ i. AllByRecursion (λ (s : Numbered Act). i ≡ s.actor → ⊥) (map numbered rs)) (sym e) (apart turns seed n (n + 1) js rs (omega arith) is.1 ran.1), all_apart turns seed (n + 1) js rs is.1 ran.1)
+    (subst (λ i. AllByRecursion (λ (s : Numbered Act). i ≡ s.actor → ⊥) (map numbered rs)) (sym e) (apart refuses turns seed n (n + 1) js rs (omega arith) is.1 ran.1), all_apart refuses turns seed (n + 1) js rs is.1 ran.1)

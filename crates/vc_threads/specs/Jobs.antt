@@ -8,11 +8,11 @@ use Rattle.vc_threads.specs.declared.spawn.Job.{Job}
 use Rattle.vc_threads.specs.declared.link.Ends.{Ends}
 use Rattle.vc_threads.specs.declared.run.ActorRun.{ActorRun}
 
--- the run is one of this actor over these ends, of at most so many turns, with its acts or without
-abbrev pub RanFrom : ℕ → ℕ → ℕ → Acting → Ends → Bool → ActorRun → Type 0
-RanFrom turns seed id actor ends keeps r =
-    (r.id ≡ id) × ((plan : Plan) (n : ℕ) → IsActorOf plan n actor → HasRun plan n turns id seed actor ends keeps r)
+-- the run is one of this actor over these ends, behind such a gate and of at most so many turns, with its acts or without
+abbrev pub RanFrom : (ℕ → ℕ → Type 0) → ℕ → ℕ → ℕ → Acting → Ends → Bool → ActorRun → Type 0
+RanFrom refuses turns seed id actor ends keeps r =
+    (r.id ≡ id) × ((plan : Plan) (n : ℕ) → IsActorOf plan n actor → HasRun refuses plan n turns id seed actor ends keeps r)
 
 -- the run of this job
-abbrev pub Ran : ℕ → ℕ → Job → ActorRun → Type 0
-Ran turns seed j r = RanFrom turns seed j.id j.actor j.ends j.keeps r
+abbrev pub Ran : (ℕ → ℕ → Type 0) → ℕ → ℕ → Job → ActorRun → Type 0
+Ran refuses turns seed j r = RanFrom refuses turns seed j.id j.actor j.ends j.keeps r

@@ -1,4 +1,5 @@
 pub mod Close
+pub mod Gates
 pub mod Jobs
 pub mod MergedRuns
 pub mod Order

@@ -34,7 +34,7 @@ use Rattle.vc_threads.specs.Works.{IsGreatest}
 use Rattle.vc_threads.specs.declared.report.Ending.{Ending}
 use Rattle.vc_threads.specs.declared.report.Report.{Report}
 use Rattle.vc_threads.specs.declared.run.Stop.{Stop}
-use Rattle.vc_threads.specs.declared.run.Stop.TheVariants.{Turns, Clock}
+use Rattle.vc_threads.specs.declared.run.Stop.TheVariants.{Turns, Gate, Clock}
 
 -- a token that is put or taken goes over a link that is on a wire
 abbrev pub IsOverWires : Plan → ℕ → Label Act (Stamped Token) → Type 0
@@ -42,17 +42,22 @@ IsOverWires p k (Own act) = Unit {0}
 IsOverWires p k (Takes act link s) = IsOnWire p (length p.wires) k link
 IsOverWires p k (Puts act link s) = IsOnWire p (length p.wires) k link
 
--- What actor k did by itself, until its worker ended as `stop` says: at most so many steps, which lead from its beginning to the state
--- `last`, over the plan's wires. Where it ended by its turns it used them. The words of its takes are those of the generator of the seed
--- and its number, in order.
-pub record IsRunOf (p : Plan) (turns seed k : ℕ) (steps : List (Turn Act Token)) (stop : Stop) (last : net.Actor Process) : Type 0 where
+-- What actor k did by itself, until its worker ended as `stop` says: steps that lead from its beginning to the state `last`, over the
+-- plan's wires. The worker made at most so many turns, each with a step, unless the actor once had no step of its own. Where it ended by
+-- its turns it made all of them, and where it ended by its gate that may have refused it the next one. The words of its takes are those
+-- of the generator of the seed and its number, in order.
+pub record IsRunOf (p : Plan) (refuses : ℕ → ℕ → Type 0) (turns seed k : ℕ) (steps : List (Turn Act Token)) (stop : Stop) (last : net.Actor Process) : Type 0 where
   pub from : Acting
   pub to : Acting
   pub begins : BeginsAs p k from
-  pub few : length steps ≤ turns
+  pub made : ℕ
+  pub few : length steps ≤ made
+  pub within : made ≤ turns
   pub run : LocalRun (StepsByLink (network_of p)) k 0 from steps to
   pub wires : AllByRecursion (λ t. IsOverWires p k t.it) steps
-  pub used : stop ≡ Turns → Used (network_of p) k turns 0 from steps to
+  pub used : Used (network_of p) k made 0 from steps to
+  pub all : stop ≡ Turns → made ≡ turns
+  pub gate : stop ≡ Gate → (made < turns) × refuses k made
   pub ends : actor_of to ≡ last
   pub rest : Lcg
   pub words : Draws (generator seed k) (words_of steps) rest
@@ -70,10 +75,10 @@ HasGreatest ts = (t : Turn Act Token) × Contains ts t × IsGreatest t.at
 -- state has there, is what was put. The steps lead to the state, where each actor is as its run left it. It is told of each actor why its
 -- worker ended. The run closes Done exactly where every process has ended there, and else by what is told: Failed with the least actor of
 -- which want of memory is. Where a worker ended by its clock an act has the greatest stamp.
-pub record IsThreadRun (p : Plan) (turns seed : ℕ) (events : List Event) (s : State) (stops : List Stop) (close : Close) : Type 0 where
+pub record IsThreadRun (p : Plan) (refuses : ℕ → ℕ → Type 0) (turns seed : ℕ) (events : List Event) (s : State) (stops : List Stop) (close : Close) : Type 0 where
   pub runs : ℕ → List (Turn Act Token)
   pub count : length stops ≡ actors p
-  pub each : (k : ℕ) → k < actors p → IsRunOf p turns seed k (runs k) (stop_among stops k) ((shown s).state k)
+  pub each : (k : ℕ) → k < actors p → IsRunOf p refuses turns seed k (runs k) (stop_among stops k) ((shown s).state k)
   pub none : (k : ℕ) → actors p ≤ k → runs k ≡ []
   pub order : OnWays (TakesInOrder (length p.nodes) runs (shown s).way) p.wires (length p.wires)
   pub merged : List (Made Act)
@@ -85,9 +90,9 @@ pub record IsThreadRun (p : Plan) (turns seed : ℕ) (events : List Event) (s : 
   pub full : (k : ℕ) → k < actors p → stop_among stops k ≡ Clock → (j : ℕ) × HasGreatest (runs j)
 
 -- what is reported is such a run
-abbrev pub Reports : Plan → ℕ → ℕ → Report → Type 0
-Reports p turns seed r = IsThreadRun p turns seed r.steps.items (state_of r.state) r.stops.items r.close
+abbrev pub Reports : Plan → (ℕ → ℕ → Type 0) → ℕ → ℕ → Report → Type 0
+Reports p refuses turns seed r = IsThreadRun p refuses turns seed r.steps.items (state_of r.state) r.stops.items r.close
 
 -- what is told without the events is how such a run ended
-abbrev pub EndsRun : Plan → ℕ → ℕ → Ending → Type 0
-EndsRun p turns seed e = (events : List Event) × IsThreadRun p turns seed events (state_of e.state) e.stops.items e.close
+abbrev pub EndsRun : Plan → (ℕ → ℕ → Type 0) → ℕ → ℕ → Ending → Type 0
+EndsRun p refuses turns seed e = (events : List Event) × IsThreadRun p refuses turns seed events (state_of e.state) e.stops.items e.close

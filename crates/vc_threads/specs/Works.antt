@@ -1,5 +1,5 @@
 -- What a worker does.
-use Rattle.std.specs.Prelude.{◌≡◌, ℕ, ◌+◌, ◌^◌, ◌≤◌, ◌⊎◌, Bool, true, false, List, [], ◌∷◌, length, map}
+use Rattle.std.specs.Prelude.{◌≡◌, ℕ, ◌+◌, ◌^◌, ◌<◌, ◌≤◌, ◌⊎◌, Bool, true, false, List, [], ◌∷◌, length, map}
 use Rattle.std.specs.List.{AllZip, AllByRecursion, Contains}
 use mathlib.Core.List.{IsPrefix}
 use Rattle.std.specs.declared.alloc.Global.{Global}
@@ -19,7 +19,7 @@ use Rattle.vc_threads.specs.declared.link.Ends.{Ends}
 use Rattle.vc_threads.specs.declared.link.LinkRule.{LinkRule}
 use Rattle.vc_threads.specs.declared.link.Stamped.{Stamped}
 use Rattle.vc_threads.specs.declared.run.ActorRun.{ActorRun}
-use Rattle.vc_threads.specs.declared.run.Stop.TheVariants.{Turns, Clock}
+use Rattle.vc_threads.specs.declared.run.Stop.TheVariants.{Turns, Gate, Clock}
 use Rattle.vc_threads.specs.Runs.{StepsByLink, Used, Draws, generator, words_of}
 use Rattle.vc_threads.specs.Wires.{Sends, Receives, IsAmong, out_links, in_links}
 
@@ -61,15 +61,17 @@ IsLate i = (x : Stamped) × IsPrefix (x ∷ []) (known_items i.1) × IsGreatest 
 abbrev pub IsFull : ℕ → List In → Type 0
 IsFull clock ins = IsGreatest clock ⊎ ((i : In) × Contains ins i × IsLate i)
 
--- What a worker gives back: some steps, at most n, are a run of actor k by itself from its first state to its last. They are the
--- acts, where these are kept.
+-- What a worker gives back: some steps are a run of actor k by itself from its first state to its last. They are the acts, where these
+-- are kept. It made at most n turns, each with a step, unless the actor once had no step of its own.
 -- What the ring ends sent and received is what the steps put and took, all over the links of these ends, and the words of the takes are
 -- those of the generator, in order.
--- A worker that ended by its turns used them, and one that ended by its clock had a stamp that was the greatest, its own or that of an
--- item that waited.
-pub record HasRun (plan : Plan) (k n id seed : ℕ) (actor : Acting) (ends : Ends) (keeps : Bool) (r : ActorRun) : Type 0 where
+-- A worker that ended by its turns made n of them. One that ended by its gate may have been refused its next turn: `refuses` says which
+-- turns the gate may refuse an actor. One that ended by its clock had a stamp that was the greatest, its own or that of an item that waited.
+pub record HasRun (refuses : ℕ → ℕ → Type 0) (plan : Plan) (k n id seed : ℕ) (actor : Acting) (ends : Ends) (keeps : Bool) (r : ActorRun) : Type 0 where
   pub steps : List (Turn Act Token)
-  pub few : length steps ≤ n
+  pub made : ℕ
+  pub few : length steps ≤ made
+  pub within : made ≤ n
   pub run : LocalRun (StepsByLink plan) k 0 actor steps r.actor
   pub acts : r.acts.items ≡ kept keeps (map logged steps)
   pub outs : AllZip (Sends steps) ends.outs.items r.ends.outs.items
@@ -77,5 +79,7 @@ pub record HasRun (plan : Plan) (k n id seed : ℕ) (actor : Acting) (ends : End
   pub links : GoOver ends.outs.items ends.ins.items steps
   pub rest : Lcg
   pub words : Draws (generator seed id) (words_of steps) rest
-  pub used : r.stop ≡ Turns → Used plan k n 0 actor steps r.actor
+  pub used : Used plan k made 0 actor steps r.actor
+  pub all : r.stop ≡ Turns → made ≡ n
+  pub gate : r.stop ≡ Gate → (made < n) × refuses id made
   pub full : r.stop ≡ Clock → IsFull (clock_after 0 steps) r.ends.ins.items

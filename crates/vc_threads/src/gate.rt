@@ -4,11 +4,18 @@ ghost use Rattle.std.specs.Prelude.{◌≡◌, false, true};
 use std::marker::Model;
 use std::sync::atomic::{AtomicBool, AtomicU64, Ordering};
 
-/// Says of each turn whether an actor may make it.
+/// Says of each turn whether an actor may make it. Contracts know of each actor and turn whether the gate may refuse it; a gate that does
+/// not say may refuse any.
 pub trait Gate: Sync {
+    ghost use Rattle.std.specs.Prelude.{◌≡◌, ℕ, false};
+    ghost use Rattle.vc_threads.specs.Gates.{refuses_any};
+
+    ghost refuses: { Self → ℕ → ℕ → Type 0 } = { λ _. refuses_any };
+
     /// Whether the actor may make this turn, counted from 0. It is asked before each turn, in the actor's thread, and where the answer is
     /// no the actor's worker ends.
-    fn pass(&self, actor: u8, turn: u64) -> bool;
+    fn pass(&self, actor: u8, turn: u64) -> bool
+        ensures { result ≡ false → refuses self.now actor turn };
 
     /// The actor's process has ended. Each node's worker says so once.
     fn ended(&self, actor: u8);
@@ -100,18 +107,6 @@ impl<'g, G: Gate> Gate for ClosableGate<'g, G> {
 
     fn ended(&self, actor: u8) {
         self.gate.ended(actor);
-    }
-}
-
-/// A gate that can be closed.
-pub(crate) trait Closes: Gate {
-    /// Closes the gate for good.
-    fn close(&self);
-}
-
-impl<'g, G: Gate> Closes for ClosableGate<'g, G> {
-    fn close(&self) {
-        ClosableGate::close(self);
     }
 }
 

@@ -1,10 +1,10 @@
 //! Starting a thread for each actor, and joining them all.
-ghost use Rattle.std.specs.Prelude.{◌≡◌, ◌++◌, [], ◌∷◌, IfOk, OnOk};
+ghost use Rattle.std.specs.Prelude.{◌≡◌, ◌++◌, [], ◌∷◌, IfOk, IfSome, OnOk};
 ghost use Rattle.std.specs.List.{All, AllZip};
 ghost use Rattle.vc_threads.specs.Private.Jobs.{IsFit};
 ghost use Rattle.vc_threads.specs.Jobs.{Ran};
 
-use crate::gate::{Closes, Gate};
+use crate::gate::Gate;
 use crate::link::Ends;
 use crate::pause::Sleep;
 use crate::run::ActorRun;
@@ -12,6 +12,7 @@ use crate::work::run_job;
 use std::alloc::Global;
 use std::snapshot::Snapshot;
 use std::sync::Wait;
+use std::sync::atomic::{AtomicBool, Ordering};
 use std::thread;
 use std::thread::{Promise, Scope, Threads};
 use thiserror::Error;
@@ -62,16 +63,18 @@ impl HasJob for Job {
     }
 }
 
-// That a run is one of this job.
+// That a run is one of this job behind this gate, unless it was cancelled.
 #[derive(Drop)]
-struct RunOf<J> {
+struct RunOf<J, G> {
     turns: u64,
     seed: u32,
     job: Snapshot<J>,
+    gate: Snapshot<G>,
 }
 
-impl<J: HasJob> Promise<ActorRun> for RunOf<J> {
-    ghost kept_by = { λ p r. Ran p.turns p.seed (J.job p.job.value) r };
+impl<J: HasJob, G: Gate> Promise<Option<ActorRun>> for RunOf<J, G> {
+    ghost kept_by = { λ p result.
+        IfSome result (Ran (G.refuses p.gate.value) p.turns p.seed (J.job p.job.value)) };
 }
 
 impl From<Memory> for ThreadFault {
@@ -93,35 +96,38 @@ fn add_run(runs: &mut Vec<ActorRun>, run: ActorRun) -> Result<(), Memory>
     Ok(())
 }
 
-// Does a job.
+// Does a job. Nothing is answered where the run was cancelled.
 fn work<G: Gate, R: Wait>(
     rt: &R,
     alloc: Global,
     job: Job,
     gate: &G,
+    cancel: &AtomicBool,
     turns: u64,
     seed: u32,
-) -> ActorRun
+) -> Option<ActorRun>
     requires { IsFit job }
-    ensures { Ran turns seed job result }
+    ensures { IfSome result (Ran (G.refuses gate.now) turns seed job) }
 {
-    run_job(alloc, job, gate, &Sleep { rt }, turns, seed)
+    run_job(alloc, job, gate, Some(cancel), &Sleep { rt }, turns, seed)
 }
 
 // Starts a thread for the last job, then those of the others, and joins it, whether the others started or not. Where a thread is not
-// started the gate is closed, so that those that run end at their next turns.
-fn run_all<'s, E, J: HasJob + Send + Drop + 's, G: Closes, R: Threads + Wait + Sync>(
+// started the run is cancelled, so that those that run end at their next turns.
+fn run_all<'s, E, J: HasJob + Send + Drop + 's, G: Gate, R: Threads + Wait + Sync>(
     rt: &'s R,
     scope: &Scope<'s, E>,
     alloc: Global,
     jobs: Vec<J>,
     gate: &'s G,
+    cancel: &'s AtomicBool,
     turns: u64,
     seed: u32,
 ) -> Result<Vec<ActorRun>, ThreadFault>
     requires { All (λ j. IsFit (J.job j)) jobs.items }
     ensures { IfOk result
-        (λ runs. AllZip (λ j r. Ran turns seed (J.job j) r) jobs.items runs.items) }
+        (λ runs. AllZip (λ j r. Ran (G.refuses gate.now) turns seed (J.job j) r)
+        jobs.items runs.items) }
 {
     let mut jobs = jobs;
     let Some(job) = jobs.pop() else {
@@ -131,28 +137,32 @@ fn run_all<'s, E, J: HasJob + Send + Drop + 's, G: Closes, R: Threads + Wait + S
         turns,
         seed,
         job: Snapshot::of(&job),
+        gate: Snapshot::of(gate),
     };
     let started = scope.spawn_with(
         promise,
-        move || -> ActorRun
+        move || -> Option<ActorRun>
             requires { IsFit (J.job job) }
-            ensures { Ran turns seed (J.job job) result }
-        { work(rt, alloc, job.job(), gate, turns, seed) },
+            ensures { IfSome result (Ran (G.refuses gate.entry.now) turns seed (J.job job)) }
+        { work(rt, alloc, job.job(), gate, cancel, turns, seed) },
     );
     let Ok(child) = started else {
-        gate.close();
+        cancel.store(true, Ordering::SeqCst);
         return Err(ThreadFault::Start);
     };
-    let others = run_all(rt, scope, alloc, jobs, gate, turns, seed);
+    let others = run_all(rt, scope, alloc, jobs, gate, cancel, turns, seed);
     let run = child.join(rt);
     let mut runs = others?;
+    let Some(run) = run else {
+        return Err(ThreadFault::Start);
+    };
     add_run(&mut runs, run)?;
     Ok(runs)
 }
 
 /// Runs each job in a thread of its own, and gives the runs in the jobs' order once all threads have ended. Where a thread is not
-/// started it closes the gate.
-pub(crate) fn run_jobs<G: Closes, R: Threads + Wait + Sync>(
+/// started, the others end at their next turns.
+pub(crate) fn run_jobs<G: Gate, R: Threads + Wait + Sync>(
     rt: &R,
     alloc: Global,
     jobs: Vec<Job>,
@@ -161,14 +171,18 @@ pub(crate) fn run_jobs<G: Closes, R: Threads + Wait + Sync>(
     seed: u32,
 ) -> Result<Vec<ActorRun>, ThreadFault>
     requires { All IsFit jobs.items }
-    ensures { IfOk result (λ runs. AllZip (Ran turns seed) jobs.items runs.items) }
+    ensures { IfOk result
+        (λ runs. AllZip (Ran (G.refuses gate.now) turns seed) jobs.items runs.items) }
 {
+    let cancelled = AtomicBool::new(false);
+    let cancel = &cancelled;
     thread::scope(
         thread::scope_env(),
         rt,
         move |scope| -> Result<Vec<ActorRun>, ThreadFault>
             requires { All IsFit jobs.items }
-            ensures { IfOk result (λ runs. AllZip (Ran turns seed) jobs.items runs.items) }
-        { run_all(rt, scope, alloc, jobs, gate, turns, seed) },
+            ensures { IfOk result
+                (λ runs. AllZip (Ran (G.refuses gate.entry.now) turns seed) jobs.items runs.items) }
+        { run_all(rt, scope, alloc, jobs, gate, cancel, turns, seed) },
     )
 }

@@ -4,7 +4,7 @@ ghost use Rattle.vc_core.specs.State.{state_of};
 ghost use Rattle.vc_core.specs.declared.event.Event.{Event};
 ghost use Rattle.vc_threads.specs.Threads.{EndsRun, IsThreadRun, Reports};
 
-use crate::gate::{ClosableGate, Gate};
+use crate::gate::Gate;
 use crate::jobs::make_jobs;
 use crate::merged_runs::merge;
 use crate::order::{all_parts, take_all};
@@ -27,11 +27,11 @@ fn run_actors<G: Gate, R: Threads + Wait + Sync>(
     keeps: bool,
 ) -> Result<Report, ThreadFault>
     ensures { IfOk result (λ r. (events : List Event) × (keeps ≡ true → events ≡ r.steps.items) ×
-        IsThreadRun accepted.now turns seed events (state_of r.state) r.stops.items r.close) }
+        IsThreadRun accepted.now (G.refuses gate.now) turns seed events (state_of r.state)
+        r.stops.items r.close) }
 {
     let jobs = make_jobs(alloc, accepted, keeps)?;
-    let gate = ClosableGate::new(gate);
-    let runs = run_jobs(rt, alloc, jobs, &gate, turns, seed)?;
+    let runs = run_jobs(rt, alloc, jobs, gate, turns, seed)?;
     let steps = merge(alloc, runs.as_slice())?;
     let stops = stops_of(alloc, runs.as_slice())?;
     let otherwise = stopped(runs.as_slice());
@@ -63,7 +63,7 @@ pub fn run_threads<G: Gate, R: Threads + Wait + Sync>(
     turns: u64,
     seed: u32,
 ) -> Result<Report, ThreadFault>
-    ensures { IfOk result (Reports accepted.now turns seed) }
+    ensures { IfOk result (Reports accepted.now (G.refuses gate.now) turns seed) }
 {
     run_actors(rt, alloc, accepted, gate, turns, seed, true)
 }
@@ -78,7 +78,7 @@ pub fn run_threads_unlogged<G: Gate, R: Threads + Wait + Sync>(
     turns: u64,
     seed: u32,
 ) -> Result<Ending, ThreadFault>
-    ensures { IfOk result (EndsRun accepted.now turns seed) }
+    ensures { IfOk result (EndsRun accepted.now (G.refuses gate.now) turns seed) }
 {
     let report = run_actors(rt, alloc, accepted, gate, turns, seed, false)?;
     let Report {

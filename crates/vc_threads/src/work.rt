@@ -1,5 +1,5 @@
 //! A worker: one actor with its ends of the rings, turn by turn.
-ghost use Rattle.std.specs.Prelude.{◌≡◌, ℕ, ◌<◌, true};
+ghost use Rattle.std.specs.Prelude.{◌≡◌, ◌≢◌, ℕ, ◌<◌, None, false, true, IfSome};
 ghost use Rattle.std.specs.List.{All};
 ghost use Rattle.vc_actor.specs.OfPlan.{IsActorOf};
 ghost use Rattle.vc_network.specs.Plan.{Plan};
@@ -14,21 +14,34 @@ use crate::run::{ActorRun, Stop};
 use crate::spawn::Job;
 use crate::worker_state::WorkerState;
 use std::alloc::Global;
+use std::sync::atomic::{AtomicBool, Ordering};
 use vc_core::Actor;
 
-/// Does a job: runs its actor for at most so many turns, as long as the gate lets it.
+// Whether a run was cancelled; one that nothing cancels never is.
+fn is_cancelled(cancel: Option<&AtomicBool>) -> bool
+    ensures { cancel.entry ≡ None → result ≡ false }
+{
+    match cancel {
+        Some(is_cancelled) => is_cancelled.load(Ordering::SeqCst),
+        None => false,
+    }
+}
+
+/// Does a job: runs its actor for at most so many turns, as long as the gate lets it. Nothing is answered where the run was cancelled.
 pub(crate) fn run_job<G: Gate, P: Pause>(
     alloc: Global,
     job: Job,
     gate: &G,
+    cancel: Option<&AtomicBool>,
     pause: &P,
     turns: u64,
     seed: u32,
-) -> ActorRun
+) -> Option<ActorRun>
     requires outs { Distinct (out_links job.ends.outs.items) }
     requires ins { Distinct (in_links job.ends.ins.items) }
     requires low { All (λ o. o.0 < 32) job.ends.outs.items }
-    ensures { Ran turns seed job result }
+    ensures ran { IfSome result (Ran (G.refuses gate.now) turns seed job) }
+    ensures cancelled { result ≡ None → cancel.entry ≢ None }
 {
     let Job {
         id,
@@ -40,12 +53,15 @@ pub(crate) fn run_job<G: Gate, P: Pause>(
     let mut told = false;
     let mut rested = None;
     for turn in 0..turns {
+        if is_cancelled(cancel) {
+            return None;
+        }
         if !gate.pass(id, turn) {
-            return worker_state.into_run(id, Stop::Gate);
+            return Some(worker_state.into_run(id, Stop::Gate));
         }
         match worker_state.turn(rested) {
             Ok(room) => rested = room,
-            Err(why) => return worker_state.into_run(id, why),
+            Err(why) => return Some(worker_state.into_run(id, why)),
         }
         if !told && worker_state.idle() < 2 && worker_state.actor.ended() {
             gate.ended(id);
@@ -53,7 +69,7 @@ pub(crate) fn run_job<G: Gate, P: Pause>(
         }
         pause.after_idle(worker_state.idle());
     }
-    worker_state.into_run(id, Stop::Turns)
+    Some(worker_state.into_run(id, Stop::Turns))
 }
 
 /// Runs an actor for at most so many turns, as long as the gate lets it. In a turn it takes the item of the least link from which it
@@ -76,7 +92,7 @@ pub fn worker<G: Gate>(
     requires low { All (λ o. o.0 < 32) ends.outs.items }
     ensures id { result.id ≡ id }
     ensures run { (plan : Plan) (n : ℕ) → IsActorOf plan n actor →
-        HasRun plan n turns id seed actor ends true result }
+        HasRun (G.refuses gate.now) plan n turns id seed actor ends true result }
 {
     let keeps = true;
     let job = Job {
@@ -85,5 +101,8 @@ pub fn worker<G: Gate>(
         ends,
         keeps,
     };
-    run_job(alloc, job, gate, &Yield, turns, seed)
+    let Some(run) = run_job(alloc, job, gate, None, &Yield, turns, seed) else {
+        unreachable!();
+    };
+    run
 }

@@ -103,7 +103,7 @@ fn take_front(
         (λ made. TakesFront plan k actor.old clock word end.old made actor.new end.new) }
     ensures err { OnErr result ((actor.new ≡ actor.old) × (end.new ≡ end.old)) }
     ensures link { end.new.0 ≡ end.old.0 }
-    ensures why { IfErr result (λ why. why ≢ Stop.Turns) }
+    ensures why { IfErr result (λ why. (why ≢ Stop.Turns) × (why ≢ Stop.Gate)) }
     ensures full { IfErr result (λ why. why ≡ Stop.Clock → IsGreatest clock ⊎ IsLate end.new) }
 {
     let (link, consumer) = end;

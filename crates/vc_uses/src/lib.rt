@@ -10,5 +10,5 @@ mod traffic;
 pub use labelling::is_well_labelled;
 pub use line::over_a_line;
 pub use scheduler::try_event;
-pub use threads::left_by_threads;
+pub use threads::{OpenGate, left_by_threads, stops_behind_an_open_gate};
 pub use traffic::{to_come, under_way};

@@ -1,12 +1,13 @@
 //! A run in threads.
-ghost use Rattle.std.specs.Prelude.{◌≤◌, ◌<◌, length, IfOk};
+ghost use Rattle.std.specs.Prelude.{◌≤◌, ◌<◌, ◌≢◌, ℕ, length, IfOk};
+ghost use Rattle.vc_threads.specs.Close.{stop_among};
 
 use crate::traffic::under_way;
 use std::alloc::Global;
 use std::sync::Wait;
 use std::thread::Threads;
 use vc_plan::Accepted;
-use vc_threads::{EndGate, ThreadFault, run_threads};
+use vc_threads::{EndGate, Ending, Gate, Stop, ThreadFault, run_threads, run_threads_unlogged};
 
 /// Runs a network in threads until every process has ended, or so many turns, and tells how many outputs on a channel are not finished
 /// then: none or one, whatever the threads did.
@@ -23,4 +24,36 @@ pub fn left_by_threads<R: Threads + Wait + Sync>(
     let gate = EndGate::new(accepted.plan().nodes.len().min(64) as u8);
     let report = run_threads(rt, alloc, accepted, &gate, turns, 1)?;
     Ok(under_way(&report.state, chan))
+}
+
+/// A gate that lets every turn pass, and says so.
+#[derive(Drop)]
+pub struct OpenGate;
+
+impl Gate for OpenGate {
+    ghost refuses = { λ _ _ _. ⊥ };
+
+    fn pass(&self, _actor: u8, _turn: u64) -> bool {
+        true
+    }
+
+    fn ended(&self, _actor: u8) {}
+}
+
+/// Runs a network in threads behind an open gate, for so many turns each, and tells why each worker ended: not by its gate.
+pub fn stops_behind_an_open_gate<R: Threads + Wait + Sync>(
+    rt: &R,
+    alloc: Global,
+    accepted: &Accepted,
+    turns: u64,
+) -> Result<Vec<Stop>, ThreadFault>
+    ensures { IfOk result (λ stops. (k : ℕ) → stop_among stops.items k ≢ Stop.Gate) }
+{
+    let ending = run_threads_unlogged(rt, alloc, accepted, &OpenGate, turns, 1)?;
+    let Ending {
+        state: _,
+        stops,
+        close: _,
+    } = ending;
+    Ok(stops)
 }

@@ -16,7 +16,7 @@ use Rattle.vc_actor.specs.ActorView.{Acting}
 use Rattle.vc_threads.specs.declared.worker_state.WorkerState.{WorkerState}
 use Rattle.vc_threads.specs.declared.link.Stamped.{Stamped}
 use Rattle.vc_threads.specs.declared.run.Stop.{Stop}
-use Rattle.vc_threads.specs.declared.run.Stop.TheVariants.{Turns, Clock}
+use Rattle.vc_threads.specs.declared.run.Stop.TheVariants.{Turns, Gate, Clock}
 use Rattle.vc_threads.specs.Runs.{StepsByLink, HasNoStep, Used, Draws, words_of}
 use Rattle.vc_threads.specs.Stamps.{stamped}
 use Rattle.vc_threads.specs.Wires.{Sends, Receives, OutLooked, InLooked, IsReady, out_links, in_links}
@@ -84,10 +84,11 @@ pub record TakesTurn (a b : Seen) (rested : Option ℕ) : Type 0 where
   pub uses : (plan : Plan) (k : ℕ) → IsActorOf plan k a.actor → Uses plan k 1 a b
   pub rests : IsRested b.actor rested
 
--- the worker stops and has done nothing: before its turns are over, and for the clock only where that is full
+-- the worker stops and has done nothing: before its turns are over, not by its gate, and for the clock only where that is full
 pub record StopsFor (a b : Seen) (why : Stop) : Type 0 where
   pub stays : Stays a b
   pub early : why ≢ Turns
+  pub passed : why ≢ Gate
   pub full : why ≡ Clock → IsFull b.clock b.ins
 
 -- the take of this item from this link

@@ -32,22 +32,22 @@ use Rattle.vc_threads.proofs.threads.run_actors.Goals as goal
 pub merge-requires-clause-distinct : goal.merge-requires-clause-distinct
 merge-requires-clause-distinct g c =
     subst (λ rs. AreDistinct (map numbered rs)) (sym c.as_slice.ensures.value)
-    (all_apart c.args.turns c.args.seed 0 c.in_ok-jobs.jobs.items c.in_ok-runs.runs.items c.in_ok-jobs.ensures.numbered c.in_ok-runs.ensures)
+    (all_apart (g.G.Gate.refuses c.args.gate.now) c.args.turns c.args.seed 0 c.in_ok-jobs.jobs.items c.in_ok-runs.runs.items c.in_ok-jobs.ensures.numbered c.in_ok-runs.ensures)
 
 pub merge-requires-clause-rising : goal.merge-requires-clause-rising
 merge-requires-clause-rising g c =
     subst (λ rs. AllByRecursion RunRises (map numbered rs)) (sym c.as_slice.ensures.value)
-    (all_rise c.args.turns c.args.seed c.in_ok-jobs.jobs.items c.in_ok-runs.runs.items (by_recursion IsFit c.in_ok-jobs.jobs.items c.in_ok-jobs.ensures.fit) c.in_ok-runs.ensures)
+    (all_rise (g.G.Gate.refuses c.args.gate.now) c.args.turns c.args.seed c.in_ok-jobs.jobs.items c.in_ok-runs.runs.items (by_recursion IsFit c.in_ok-jobs.jobs.items c.in_ok-jobs.ensures.fit) c.in_ok-runs.ensures)
 
 pub stopped-otherwise-requires : goal.stopped-otherwise-requires
 stopped-otherwise-requires g c =
-    subst AreInOrder (sym c.as_slice-3.ensures.value) (in_order c.args.turns c.args.seed c.in_ok-jobs.jobs.items c.in_ok-runs.runs.items c.in_ok-jobs.ensures.numbered c.in_ok-runs.ensures)
+    subst AreInOrder (sym c.as_slice-3.ensures.value) (in_order (g.G.Gate.refuses c.args.gate.now) c.args.turns c.args.seed c.in_ok-jobs.jobs.items c.in_ok-runs.runs.items c.in_ok-jobs.ensures.numbered c.in_ok-runs.ensures)
 
 pub take_all-requires-clause-rings : goal.take_all-requires-clause-rings
 take_all-requires-clause-rings g c =
     let js = c.in_ok-jobs.jobs.items in
     subst (λ q. OnWires (MeetAt (length q.nodes) c.in_ok-actors.ends) q.wires (length q.wires)) (sym c.plan.ensures.plan)
-    (ends_meet c.args.accepted.now c.args.turns c.args.seed js c.in_ok-runs.runs.items c.in_ok-jobs.ensures.begins c.in_ok-jobs.ensures.numbered c.in_ok-runs.ensures
+    (ends_meet c.args.accepted.now (g.G.Gate.refuses c.args.gate.now) c.args.turns c.args.seed js c.in_ok-runs.runs.items c.in_ok-jobs.ensures.begins c.in_ok-jobs.ensures.numbered c.in_ok-runs.ensures
     c.in_ok-actors.ends c.in_ok-actors.ensures.outs c.in_ok-actors.ensures.ins c.in_ok-jobs.ensures.wired (by_recursion IsFit js c.in_ok-jobs.ensures.fit))
 
 pub of_parts-requires : goal.of_parts-requires
@@ -57,8 +57,8 @@ of_parts-requires g c =
     let rs = c.in_ok-runs.runs.items in
     let are = c.in_ok-actors.ensures.actors in
     record {
-      count = ap length are ∙ (length-map rs actor_left ∙ runs_count p c.args.turns c.args.seed js rs c.in_ok-jobs.ensures.begins c.in_ok-jobs.ensures.numbered c.in_ok-runs.ensures);
-      actors = λ k x here. parts_fit p c.args.turns c.args.seed js rs c.in_ok-jobs.ensures.begins c.in_ok-jobs.ensures.numbered c.in_ok-runs.ensures k x (ap (λ xs. slice_get xs k) (sym are) ∙ here);
+      count = ap length are ∙ (length-map rs actor_left ∙ runs_count p (g.G.Gate.refuses c.args.gate.now) c.args.turns c.args.seed js rs c.in_ok-jobs.ensures.begins c.in_ok-jobs.ensures.numbered c.in_ok-runs.ensures);
+      actors = λ k x here. parts_fit p (g.G.Gate.refuses c.args.gate.now) c.args.turns c.args.seed js rs c.in_ok-jobs.ensures.begins c.in_ok-jobs.ensures.numbered c.in_ok-runs.ensures k x (ap (λ xs. slice_get xs k) (sym are) ∙ here);
       ways = ap length c.as_slice-4.ensures.value ∙ (c.in_ok-left.ensures.count ∙ ap (λ (q : Plan). 2 * length q.wires) c.plan.ensures.plan);
     }
 
@@ -66,12 +66,12 @@ pub close_of-close-requires : goal.close_of-close-requires
 close_of-close-requires g c = not_done (length c.as_slice-3.result.now) (stop_at c.as_slice-3.result.now) c.stopped-otherwise.result c.stopped-otherwise.ensures
 
 -- the events of the runs: those that were merged, where acts are kept, and else some that the proof alone has
-events_of : (p : Plan) (turns seed : ℕ) (js : List Job) (rs : List ActorRun) (begins : AreFirst p (actors p) (map actor_in js)) (are : AreNumbered 0 (map who js)) (ran : AllZip (Ran turns seed) js rs)
+events_of : (p : Plan) (refuses : ℕ → ℕ → Type 0) (turns seed : ℕ) (js : List Job) (rs : List ActorRun) (begins : AreFirst p (actors p) (map actor_in js)) (are : AreNumbered 0 (map who js)) (ran : AllZip (Ran refuses turns seed) js rs)
     (keeps : Bool) → AllKeep keeps (map who js) → (merged : List (Made Act)) → IsMerge (run_of (map numbered rs)) merged → (steps : List Event) → steps ≡ map made_event merged →
-    (made : List (Made Act)) × (keeps ≡ true → map made_event made ≡ steps) × IsMerge (λ k. map (restamped act_of) (steps_of p turns seed js rs begins are ran k)) made
-events_of p turns seed js rs begins are ran true keep merged merge steps is = (merged, (λ e. sym is), acts_merged p turns seed js rs begins are ran keep merged merge)
-events_of p turns seed js rs begins are ran false keep merged merge steps is =
-    let m = have_merge p turns seed js rs begins are ran in
+    (made : List (Made Act)) × (keeps ≡ true → map made_event made ≡ steps) × IsMerge (λ k. map (restamped act_of) (steps_of p refuses turns seed js rs begins are ran k)) made
+events_of p refuses turns seed js rs begins are ran true keep merged merge steps is = (merged, (λ e. sym is), acts_merged p refuses turns seed js rs begins are ran keep merged merge)
+events_of p refuses turns seed js rs begins are ran false keep merged merge steps is =
+    let m = have_merge p refuses turns seed js rs begins are ran in
     (m.0, (λ e. absurd (cc)), m.1)
 
 pub returns : goal.returns
@@ -87,11 +87,11 @@ returns g c =
     let left = c.in_ok-left.left.items in
     let made = c.in_ok-state.ensures in
     let done = c.close_of-close.ensures in
-    let events = events_of p c.args.turns c.args.seed js rs begins are ran c.args.keeps c.in_ok-jobs.ensures.keep
+    let events = events_of p (g.G.Gate.refuses c.args.gate.now) c.args.turns c.args.seed js rs begins are ran c.args.keeps c.in_ok-jobs.ensures.keep
     m.0 (subst (λ xs. IsMerge (run_of (map numbered xs)) m.0) c.as_slice.ensures.value m.1) c.in_ok-steps.steps.items m.2 in (
       map made_event events.0,
       events.1,
-      is_run p c.plan.ensures.accepted c.args.turns c.args.seed js rs begins are ran c.in_ok-jobs.ensures.wired
+      is_run p c.plan.ensures.accepted (g.G.Gate.refuses c.args.gate.now) c.args.turns c.args.seed js rs begins are ran c.in_ok-jobs.ensures.wired
           c.in_ok-actors.ends c.in_ok-actors.ensures.outs c.in_ok-actors.ensures.ins
           left (c.in_ok-left.ensures.count ∙ ap (λ (q : Plan). 2 * length q.wires) same)
           (subst (λ q. OnWays (LeftOn (length q.nodes) c.in_ok-actors.ends left) q.wires (length q.wires)) same c.in_ok-left.ensures.left)

@@ -23,28 +23,28 @@ turn-requires-clause-low g c =
     low_kept (worker_state c.new-worker_state.result).outs (worker_state c.loop-turn.worker_state).outs c.loop-turn.invariant.ends.0
     (subst (λ v. All (λ o. o.0 < 32) v.items) (sym c.new-worker_state.ensures.outs) c.requires.low)
 
-pub returns-then-not-pass : goal.returns-then-not-pass
-returns-then-not-pass g c = (
+pub returns-then-not-pass-clause-ran : goal.returns-then-not-pass-clause-ran
+returns-then-not-pass-clause-ran g c = (
   c.into_run.ensures.id,
   λ plan n of.
       let d = c.new-worker_state.ensures in
       let e = c.into_run.ensures in
       let less = c.loop-turn-test.true in
-      has_run plan n c.loop-turn.turn c.args.turns c.args.job.id c.args.seed c.new-worker_state.result c.loop-turn.worker_state c.loop-turn.worker_state c.args.job.actor c.args.job.ends c.args.job.keeps c.into_run.result
+      has_run (g.G.Gate.refuses c.args.gate.now) plan n c.loop-turn.turn c.args.turns c.args.job.id c.args.seed c.new-worker_state.result c.loop-turn.worker_state c.loop-turn.worker_state c.args.job.actor c.args.job.ends c.args.job.keeps c.into_run.result
       (c.loop-turn.invariant.run plan n (subst (λ a. IsActorOf plan n a) (sym d.actor) of)) (stays_same (worker_state c.loop-turn.worker_state)) (omega (arith, less))
-      d.actor d.clock d.keeps d.acts d.outs d.ins d.words e.actor e.acts e.outs e.ins (λ h. let f : Gate ≡ Turns = sym e.stop ∙ h in cc) (λ h. let f : Gate ≡ Clock = sym e.stop ∙ h in cc),
+      d.actor d.clock d.keeps d.acts d.outs d.ins d.words e.actor e.acts e.outs e.ins (λ h. let f : Gate ≡ Turns = sym e.stop ∙ h in cc) (λ h. (less, c.pass.ensures c.if-not-pass.true)) (λ h. let f : Gate ≡ Clock = sym e.stop ∙ h in cc),
 )
 
-pub returns-in-Err : goal.returns-in-Err
-returns-in-Err g c = (
+pub returns-in-Err-clause-ran : goal.returns-in-Err-clause-ran
+returns-in-Err-clause-ran g c = (
   c.into_run-in-Err.ensures.id,
   λ plan n of.
       let d = c.new-worker_state.ensures in
       let e = c.into_run-in-Err.ensures in
       let less = c.loop-turn-test.true in
-      has_run plan n c.loop-turn.turn c.args.turns c.args.job.id c.args.seed c.new-worker_state.result c.loop-turn.worker_state c.turn.new.self c.args.job.actor c.args.job.ends c.args.job.keeps c.into_run-in-Err.result
+      has_run (g.G.Gate.refuses c.args.gate.now) plan n c.loop-turn.turn c.args.turns c.args.job.id c.args.seed c.new-worker_state.result c.loop-turn.worker_state c.turn.new.self c.args.job.actor c.args.job.ends c.args.job.keeps c.into_run-in-Err.result
       (c.loop-turn.invariant.run plan n (subst (λ a. IsActorOf plan n a) (sym d.actor) of)) c.in-Err.ensures.stop.stays (omega (arith, less))
-      d.actor d.clock d.keeps d.acts d.outs d.ins d.words e.actor e.acts e.outs e.ins (λ h. absurd (c.in-Err.ensures.stop.early (sym e.stop ∙ h))) (λ h. c.in-Err.ensures.stop.full (sym e.stop ∙ h)),
+      d.actor d.clock d.keeps d.acts d.outs d.ins d.words e.actor e.acts e.outs e.ins (λ h. absurd (c.in-Err.ensures.stop.early (sym e.stop ∙ h))) (λ h. absurd (c.in-Err.ensures.stop.passed (sym e.stop ∙ h))) (λ h. c.in-Err.ensures.stop.full (sym e.stop ∙ h)),
 )
 
 pub loop-turn-preserved : goal.loop-turn-preserved
@@ -60,15 +60,15 @@ loop-turn-preserved g c = record {
 pub turn-requires-clause-rests : goal.turn-requires-clause-rests
 turn-requires-clause-rests g c = c.loop-turn.invariant.rests
 
-pub returns : goal.returns
-returns g c = (
+pub returns-clause-ran : goal.returns-clause-ran
+returns-clause-ran g c = (
   c.into_run-2.ensures.id,
   λ plan n of.
       let d = c.new-worker_state.ensures in
       let e = c.into_run-2.ensures in
       let all = c.loop-turn-test.false in
       let end = c.loop-turn.auto.turn-end in
-      has_run plan n c.loop-turn.turn c.args.turns c.args.job.id c.args.seed c.new-worker_state.result c.loop-turn.worker_state c.loop-turn.worker_state c.args.job.actor c.args.job.ends c.args.job.keeps c.into_run-2.result
+      has_run (g.G.Gate.refuses c.args.gate.now) plan n c.loop-turn.turn c.args.turns c.args.job.id c.args.seed c.new-worker_state.result c.loop-turn.worker_state c.loop-turn.worker_state c.args.job.actor c.args.job.ends c.args.job.keeps c.into_run-2.result
       (c.loop-turn.invariant.run plan n (subst (λ a. IsActorOf plan n a) (sym d.actor) of)) (stays_same (worker_state c.loop-turn.worker_state)) (omega (arith, end))
-      d.actor d.clock d.keeps d.acts d.outs d.ins d.words e.actor e.acts e.outs e.ins (λ h. omega (arith, all, end)) (λ h. let f : Turns ≡ Clock = sym e.stop ∙ h in cc),
+      d.actor d.clock d.keeps d.acts d.outs d.ins d.words e.actor e.acts e.outs e.ins (λ h. omega (arith, all, end)) (λ h. let f : Turns ≡ Gate = sym e.stop ∙ h in cc) (λ h. let f : Turns ≡ Clock = sym e.stop ∙ h in cc),
 )

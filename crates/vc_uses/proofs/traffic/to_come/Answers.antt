@@ -1,6 +1,5 @@
 use Rattle.std.proofs.Common.{◌<◌, sym, ap, ◌∙◌, subst, length, slice_get}
 use Rattle.std.proofs.lemmas.List.{length-map}
-use Rattle.vc_blocks.specs.Messages.{listed}
 use Rattle.vc_accepted.specs.NetworkOf.{home_in, network_of}
 use Rattle.vc_core.specs.State.{shown, state_of}
 use Rattle.vc_network.specs.Views.{view}

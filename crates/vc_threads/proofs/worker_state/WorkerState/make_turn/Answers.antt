@@ -5,7 +5,7 @@ use Rattle.vc_actor.specs.Turns.{PutsWithRoom, MakesTurn}
 use Rattle.vc_actor.specs.declared.act.Act.{Act}
 use Rattle.vc_tokens.specs.declared.token.Token.{Token}
 use Rattle.vc_threads.specs.declared.link.Stamped.{Stamped}
-use Rattle.vc_threads.specs.declared.run.Stop.TheVariants.{Turns, Clock, Memory}
+use Rattle.vc_threads.specs.declared.run.Stop.TheVariants.{Turns, Gate, Clock, Memory}
 use Rattle.vc_threads.specs.Stamps.{stamped}
 use Rattle.vc_threads.specs.Wires.{InLooked, Distinct, IsAmong}
 use Rattle.vc_threads.specs.Works.{kept}
@@ -24,6 +24,7 @@ pub returns-in_default-clause-stop : goal.returns-in_default-clause-stop
 returns-in_default-clause-stop c = record {
   stays = stays_same (worker_state c.args.self.now);
   early = λ same. absurd (let e : Clock ≡ Turns = same in cc);
+  passed = λ same. absurd (let e : Clock ≡ Gate = same in cc);
   full = λ clock. inl c.in_default.ensures;
 }
 
@@ -40,6 +41,7 @@ returns-in-Err-clause-stop c =
         ins = zip_same InLooked in_looked_same a.ins.items;
       };
       early = λ same. absurd (let e : Memory ≡ Turns = same in cc);
+      passed = λ same. absurd (let e : Memory ≡ Gate = same in cc);
       full = λ same. absurd (let e : Memory ≡ Clock = same in cc);
     }
 

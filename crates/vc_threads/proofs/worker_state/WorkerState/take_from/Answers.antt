@@ -30,7 +30,8 @@ returns-in_err-stamp-clause-stop c =
         outs = zip_same OutLooked looked_same a.outs.ends.items;
         ins = zip_step InLooked in_looked_then a.ins.items a.ins.items c.args.k c.index_mut.result.now end (zip_same InLooked in_looked_same a.ins.items) c.requires.within looked;
       };
-      early = c.in_err-stamp.ensures.why;
+      early = c.in_err-stamp.ensures.why.0;
+      passed = c.in_err-stamp.ensures.why.1;
       full = λ is. elim (c.in_err-stamp.ensures.full is) [
         | inl own ↦ inl own
         | inr late ↦ inr (end, written_in a.ins.items c.args.k end c.requires.within, late)

@@ -1,7 +1,7 @@
 use Rattle.std.proofs.Common.{◌≡◌, refl, sym, ◌∙◌, subst, ◌++◌, take, drop, length}
 use Rattle.std.specs.List.{HoldsAt}
 use Rattle.vc_threads.specs.Wires.{InLooked, Distinct}
-use Rattle.vc_threads.specs.declared.run.Stop.TheVariants.{Turns, Clock, Memory}
+use Rattle.vc_threads.specs.declared.run.Stop.TheVariants.{Turns, Gate, Clock, Memory}
 use Rattle.vc_threads.specs.Private.Works.{Seen, CanTake, worker_state}
 use Rattle.vc_threads.proofs.Goings.{stays_same, turn_looked, stop_looked, looked_in_links}
 use Rattle.vc_threads.proofs.Outcomes.{if_ok_map, if_err_map}
@@ -12,6 +12,7 @@ pub returns-then-capacity-len-clause-stop : goal.returns-then-capacity-len-claus
 returns-then-capacity-len-clause-stop c = record {
   stays = stays_same (worker_state c.args.self.now);
   early = λ same. absurd (let e : Memory ≡ Turns = same in cc);
+  passed = λ same. absurd (let e : Memory ≡ Gate = same in cc);
   full = λ same. absurd (let e : Memory ≡ Clock = same in cc);
 }
 
