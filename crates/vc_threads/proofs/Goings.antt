@@ -174,7 +174,7 @@ module _ (plan : Plan) (k : ℕ) where
       links = tt;
       words = words;
     };
-    used = inr ([], [], a.actor, refl, refl, node, quiet);
+    used = (quiet, node);
   }
 
   -- one step was made
@@ -194,7 +194,7 @@ module _ (plan : Plan) (k : ℕ) where
       links = (over, tt);
       words = words;
     };
-    used = inl refl;
+    used = inr (b.actor, (b.actor, step, stamp, carries, refl), refl);
   }
 
   -- after a look
@@ -230,7 +230,7 @@ module _ (plan : Plan) (k : ℕ) where
       links = tt;
       words = refl;
     };
-    used = inl refl;
+    used = refl;
   }
 
   -- the ends stay those of the same links
@@ -262,7 +262,7 @@ module _ (plan : Plan) (k : ℕ) where
               (subst (λ ls. AllByRecursion (λ t. GoesOver (out_links b.outs) ls t.it) q.steps) (ins_same n a b p) q.goes.links));
           words = subst (λ w. Draws a.words w c.words) (sym (words_then p.steps q.steps)) (draws_then a.words b.words c.words (words_of p.steps) (words_of q.steps) p.goes.words q.goes.words);
         };
-        used = used_then plan k n m a.clock a.actor b.actor c.actor p.steps q.steps p.goes.run run p.used (subst (λ w. Used plan k m w b.actor q.steps c.actor) p.goes.clock q.used);
+        used = used_then plan k n m a.clock a.actor b.actor c.actor p.steps q.steps p.used (subst (λ w. Used plan k m w b.actor q.steps c.actor) p.goes.clock q.used);
       }
 
 -- the ends of the same links are below 32 where these are

@@ -1,5 +1,5 @@
 -- Runs joined, and what they keep.
-use Rattle.std.proofs.Common.{◌≡◌, ℕ, ◌+◌, List, [], ◌∷◌, ◌++◌, refl, ap, sym, subst, ◌∙◌, append_assoc, inl, inr, arith, length-append}
+use Rattle.std.proofs.Common.{◌≡◌, ℕ, zero, suc, ◌+◌, List, [], ◌∷◌, ◌++◌, refl, sym, subst, inl, inr, arith}
 use Rattle.std.proofs.lemmas.List.Concat.{flat_map-append}
 use Rattle.rand_pcg.specs.Lcg.{Lcg}
 use Rattle.rand_pcg.specs.Pcg.{pcg32}
@@ -39,32 +39,27 @@ pub draws_then : (g h i : Lcg) (vs ws : List ℕ) → Draws g vs h → Draws h w
 draws_then g h i [] ws p q = subst (λ x. Draws x ws i) p q
 draws_then g h i (v ∷ vs) ws p q = (p.0, draws_then (pcg32 g).1 h i vs ws p.1 q)
 
+-- a turn without a step, and then others
+idle_then : (plan : Plan) (k n clock : ℕ) (a b : Acting) (ts : List (Turn Act Token)) → HasNoStep plan k a → Used plan k n clock a ts b → Used plan k (suc n) clock a ts b
+idle_then plan k n clock a b [] quiet u = (quiet, u)
+idle_then plan k n clock a b (t ∷ ts) quiet u = inl (quiet, u)
+
 -- turns used, and then more
 pub used_then : (plan : Plan) (k n m clock : ℕ) (a b c : Acting) (ts us : List (Turn Act Token))
-    → LocalRun (StepsByLink plan) k clock a ts b → LocalRun (StepsByLink plan) k (clock_after clock ts) b us c
     → Used plan k n clock a ts b → Used plan k m (clock_after clock ts) b us c → Used plan k (n + m) clock a (ts ++ us) c
-used_then plan k n m clock a b c ts us p q (inr r) w =
-    inr (
-      r.0,
-      r.1 ++ us,
-      r.2,
-      ap (λ v. v ++ us) r.3 ∙ append_assoc r.0 r.1 us,
-      r.4,
-      run_then (StepsByLink plan) k (clock_after clock r.0) r.2 b c r.1 us r.5
-          (subst (λ x. LocalRun (StepsByLink plan) k x b us c) (ap (clock_after clock) r.3 ∙ clock_then clock r.0 r.1) q),
-      r.6,
-    )
-used_then plan k n m clock a b c ts us p q (inl e) (inr r) =
-    inr (
-      ts ++ r.0,
-      r.1,
-      r.2,
-      ap (λ v. ts ++ v) r.3 ∙ sym (append_assoc ts r.0 r.1),
-      run_then (StepsByLink plan) k clock a b r.2 ts r.0 p r.4,
-      subst (λ x. LocalRun (StepsByLink plan) k x r.2 r.1 c) (sym (clock_then clock ts r.0)) r.5,
-      r.6,
-    )
-used_then plan k n m clock a b c ts us p q (inl e) (inl f) = inl (omega (arith, length-append ts us, e, f))
+used_then plan k zero m clock a b c [] us p q =
+    let same : m ≡ 0 + m = omega arith in
+    subst (λ j. Used plan k j clock a us c) same (subst (λ v. Used plan k m clock v us c) p q)
+used_then plan k zero m clock a b c (t ∷ ts) us p q = absurd p
+used_then plan k (suc n) m clock a b c [] us p q =
+    let same : suc (n + m) ≡ suc n + m = omega arith in
+    subst (λ j. Used plan k j clock a us c) same (idle_then plan k (n + m) clock a c us p.0 (used_then plan k n m clock a b c [] us p.1 q))
+used_then plan k (suc n) m clock a b c (t ∷ ts) us (inl p) q =
+    let same : suc (n + m) ≡ suc n + m = omega arith in
+    subst (λ j. Used plan k j clock a (t ∷ (ts ++ us)) c) same (inl (p.0, used_then plan k n m clock a b c (t ∷ ts) us p.1 q))
+used_then plan k (suc n) m clock a b c (t ∷ ts) us (inr p) q =
+    let same : suc (n + m) ≡ suc n + m = omega arith in
+    subst (λ j. Used plan k j clock a (t ∷ (ts ++ us)) c) same (inr (p.0, p.1, used_then plan k n m t.at p.0 b c ts us p.2 q))
 
 -- a put leaves a node of the plan
 put_kept : (plan : Plan) (k link : ℕ) (old : Acting) (act : Act) (item : Token) (new : Acting) → IsPut plan k old link act item new → IsActorOf plan k new

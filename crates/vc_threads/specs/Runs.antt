@@ -1,9 +1,9 @@
 -- What an actor does by itself, with its ways named by its links.
-use Rattle.std.specs.Prelude.{◌≡◌, ◌⊎◌, ℕ, List, [], ◌∷◌, ◌++◌, length}
+use Rattle.std.specs.Prelude.{◌≡◌, ◌⊎◌, ℕ, zero, suc, List, [], ◌∷◌}
 use Rattle.std.specs.List.{flat_map}
 use Rattle.vc_network.specs.Actors.{Label, Steps}
 use Rattle.vc_network.specs.Actors.Label.{Own, Takes, Puts}
-use Rattle.vc_network.specs.LocalRun.{Stamped, Turn, LocalRun, clock_after}
+use Rattle.vc_network.specs.LocalRun.{Stamped, Turn, LocalRun}
 use Rattle.vc_network.specs.Plan.{Plan}
 use Rattle.vc_tokens.specs.CodeTokens.{token}
 use Rattle.vc_tokens.specs.declared.token.Token.{Token}
@@ -27,18 +27,14 @@ StepsByLink plan k old _ new = ⊥
 abbrev pub HasNoStep : Plan → ℕ → Acting → Type 0
 HasNoStep plan k n = (act : Act) → IsOwn act → CanAct plan k n act → ⊥
 
--- after some prefix of the run the actor has no step of its own
-abbrev pub Rests : Plan → ℕ → ℕ → Acting → List (Turn Act Token) → Acting → Type 0
-Rests plan k clock old ts new =
-    (before after : List (Turn Act Token)) × (mid : Acting)
-    × (ts ≡ before ++ after)
-    × LocalRun (StepsByLink plan) k clock old before mid
-    × LocalRun (StepsByLink plan) k (clock_after clock before) mid after new
-    × HasNoStep plan k mid
-
--- the run used n turns: it has n acts, or the actor once had no step of its own
+-- the run used n turns: in each the actor makes the next of its steps, or has no step of its own
 abbrev pub Used : Plan → ℕ → ℕ → ℕ → Acting → List (Turn Act Token) → Acting → Type 0
-Used plan k n clock old ts new = (length ts ≡ n) ⊎ Rests plan k clock old ts new
+Used plan k zero clock old [] new = new ≡ old
+Used plan k zero clock old (t ∷ ts) new = ⊥
+Used plan k (suc n) clock old [] new = HasNoStep plan k old × Used plan k n clock old [] new
+Used plan k (suc n) clock old (t ∷ ts) new =
+    (HasNoStep plan k old × Used plan k n clock old (t ∷ ts) new)
+    ⊎ ((mid : Acting) × LocalRun (StepsByLink plan) k clock old (t ∷ []) mid × Used plan k n t.at mid ts new)
 
 -- the word of a take
 abbrev pub word_of : Label Act (Stamped Token) → List ℕ

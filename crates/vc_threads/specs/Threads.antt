@@ -43,9 +43,9 @@ IsOverWires p k (Takes act link s) = IsOnWire p (length p.wires) k link
 IsOverWires p k (Puts act link s) = IsOnWire p (length p.wires) k link
 
 -- What actor k did by itself, until its worker ended as `stop` says: steps that lead from its beginning to the state `last`, over the
--- plan's wires. The worker made at most so many turns, each with a step, unless the actor once had no step of its own. Where it ended by
--- its turns it made all of them, and where it ended by its gate that may have refused it the next one. The words of its takes are those
--- of the generator of the seed and its number, in order.
+-- plan's wires. The worker made at most so many turns, and in each the actor made a step, or had no step of its own. Where it ended by its
+-- turns it made all of them, and where it ended by its gate that may have refused it the next one. The words of its takes are those of the
+-- generator of the seed and its number, in order.
 pub record IsRunOf (p : Plan) (refuses : ℕ → ℕ → Type 0) (turns seed k : ℕ) (steps : List (Turn Act Token)) (stop : Stop) (last : net.Actor Process) : Type 0 where
   pub from : Acting
   pub to : Acting

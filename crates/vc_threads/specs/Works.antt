@@ -62,7 +62,7 @@ abbrev pub IsFull : ℕ → List In → Type 0
 IsFull clock ins = IsGreatest clock ⊎ ((i : In) × Contains ins i × IsLate i)
 
 -- What a worker gives back: some steps are a run of actor k by itself from its first state to its last. They are the acts, where these
--- are kept. It made at most n turns, each with a step, unless the actor once had no step of its own.
+-- are kept. It made at most n turns, and in each the actor made a step, or had no step of its own.
 -- What the ring ends sent and received is what the steps put and took, all over the links of these ends, and the words of the takes are
 -- those of the generator, in order.
 -- A worker that ended by its turns made n of them. One that ended by its gate may have been refused its next turn: `refuses` says which
