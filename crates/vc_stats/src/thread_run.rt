@@ -10,7 +10,7 @@ use std::alloc::Global;
 use std::io::{Read, Write};
 use std::sync::Wait;
 use std::thread::Threads;
-use vc_text::{RunFault, ThreadOptions, ending_of, gate_of, read_accepted, write_text};
+use vc_text::{RunFault, ThreadOptions, gate_of, read_accepted, write_text};
 use vc_threads::{Ending, run_threads, run_threads_unlogged};
 
 /// Reads a network file, runs the network in threads as the options say, and writes its traffic and then the counts of the events that the
@@ -42,7 +42,7 @@ pub fn stats_net<T: Threads + Wait + Sync, R: Read, W: Write>(
         options.is_why,
     )?;
     write_text(writer, text.as_slice())?;
-    Ok(ending_of(report))
+    Ok(report.into_ending())
 }
 
 /// Reads a network file, runs the network in threads as the options say, and writes its traffic as JSON, without who waits for what. It

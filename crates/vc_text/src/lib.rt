@@ -48,7 +48,7 @@ pub use step_options::StepOptions;
 pub use streams::{read_all, write_text};
 pub use tail::tail_of;
 pub use thread_options::ThreadOptions;
-pub use thread_run::{ending_of, gate_of, run_net, run_net_unlogged};
+pub use thread_run::{gate_of, run_net, run_net_unlogged};
 pub use traffic::{ChannelView, push_counts, push_value, write_channels};
 pub use unlogged::{run_step_unlogged, run_unlogged};
 pub use vc_reader::{Path, ReadRefused, Step, Word, read_network};

@@ -22,27 +22,6 @@ pub fn gate_of(accepted: &Accepted) -> EndGate
     EndGate::new(accepted.plan().nodes.len().min(64) as u8)
 }
 
-/// What a report says without its events.
-pub fn ending_of(report: Report) -> Ending
-    ensures { result ≡ record {
-      state = report.state;
-      stops = report.stops;
-      close = report.close;
-    } }
-{
-    let Report {
-        steps: _,
-        state,
-        stops,
-        close,
-    } = report;
-    Ending {
-        state,
-        stops,
-        close,
-    }
-}
-
 /// Reads a network file, runs the network with a thread for each node and each switch, and writes its traffic. Each thread makes at
 /// most so many turns, and ends earlier once the process of every node has ended. The words of an actor's takes are those of the
 /// generator of this seed and the actor's number. Where it fails, a front of the text was written if the writer failed, and else nothing.

@@ -36,6 +36,31 @@ pub struct Ending {
     pub close: Close,
 }
 
+impl Report {
+    ghost use Rattle.std.specs.Prelude.{◌≡◌};
+
+    /// What the report says without its events.
+    pub fn into_ending(self) -> Ending
+        ensures { result ≡ record {
+          state = self.state;
+          stops = self.stops;
+          close = self.close;
+        } }
+    {
+        let Report {
+            steps: _,
+            state,
+            stops,
+            close,
+        } = self;
+        Ending {
+            state,
+            stops,
+            close,
+        }
+    }
+}
+
 /// Why each worker ended, in the order of the runs.
 pub(crate) fn stops_of(alloc: Global, runs: &[ActorRun]) -> Result<Vec<Stop>, Memory>
     ensures { IfOk result (λ stops. stops.items ≡ map stop_in runs.now) }

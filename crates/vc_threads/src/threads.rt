@@ -50,9 +50,9 @@ fn run_actors<G: Gate, R: Threads + Wait + Sync>(
 /// Runs each node and each switch of an accepted plan in a thread of its own, for at most so many turns each, as long as the gate lets it.
 /// The threads are joined, and their acts are made one list: whatever the threads did, it is a run of the network. The network that is
 /// reported is put together from the actors, as their acts left them, and from the tokens that are left in the rings. Why each worker
-/// ended is told, and where one met want of memory the run closes with the least of their actors, if not every process has ended.
-/// Where a thread can't be started, the workers that run end at their next turns, and the call then fails. Else it fails for want of memory
-/// alone.
+/// ended is told: one that ended by the gate may have been refused its next turn. Where one met want of memory the run closes with the
+/// least of their actors, if not every process has ended. Where a thread can't be started, the workers that run end at their next turns,
+/// and the call then fails. Else it fails for want of memory alone.
 ///
 /// The words of an actor's takes are those of the generator of this seed and the actor's number.
 pub fn run_threads<G: Gate, R: Threads + Wait + Sync>(
@@ -81,15 +81,5 @@ pub fn run_threads_unlogged<G: Gate, R: Threads + Wait + Sync>(
     ensures { IfOk result (EndsRun accepted.now (G.refuses gate.now) turns seed) }
 {
     let report = run_actors(rt, alloc, accepted, gate, turns, seed, false)?;
-    let Report {
-        steps: _,
-        state,
-        stops,
-        close,
-    } = report;
-    Ok(Ending {
-        state,
-        stops,
-        close,
-    })
+    Ok(report.into_ending())
 }

@@ -77,7 +77,7 @@ pub(crate) fn run_job<G: Gate, P: Pause>(
 /// words.
 ///
 /// No link stands twice among the ends that go out or among those that come in, and each that goes out is below 32. The clock at
-/// `u64::MAX` ends the worker before the act, and so does want of memory.
+/// `u64::MAX` ends the worker before the act, and so does want of memory. One that ended by the gate may have been refused its next turn.
 pub fn worker<G: Gate>(
     alloc: Global,
     id: u8,

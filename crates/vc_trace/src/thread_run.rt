@@ -7,7 +7,7 @@ use std::alloc::Global;
 use std::io::{Read, Write};
 use std::sync::Wait;
 use std::thread::Threads;
-use vc_text::{RunFault, ThreadOptions, ending_of, gate_of, read_accepted, tail_of};
+use vc_text::{RunFault, ThreadOptions, gate_of, read_accepted, tail_of};
 use vc_threads::{Ending, run_threads};
 
 /// Does what [`run_net_unlogged`](vc_text::run_net_unlogged) does, and writes the events that the threads report in front of the traffic,
@@ -29,5 +29,5 @@ pub fn trace_net<T: Threads + Wait + Sync, R: Read, W: Write>(
     let plan = accepted.plan();
     let tail = tail_of(alloc, plan, &report.state, report.close, options.is_why)?;
     write_steps(writer, plan, report.steps.as_slice(), tail.as_slice())?;
-    Ok(ending_of(report))
+    Ok(report.into_ending())
 }

@@ -53,7 +53,7 @@ returns g c =
     let tail = c.in_ok-tail.tail.items in
     let is = subst (λ (q : Plan). IsTail why q events x r.close tail) c.plan-plan.ensures.plan (c.in_ok-tail.ensures events) in
     let wrote = rw (c.plan-plan.ensures.plan, c.as_slice.ensures.value, c.as_slice-2.ensures.value) at c.in_ok-write_steps.ensures in
-    rw (c.ending_of.ensures) (p, c.in_ok-accepted.ensures, (events_text p events ++ tail, (events, c.in_ok-report.ensures, traced why p events x r.close tail is), wrote))
+    rw (c.into_ending.ensures) (p, c.in_ok-accepted.ensures, (events_text p events ++ tail, (events, c.in_ok-report.ensures, traced why p events x r.close tail is), wrote))
 
 pub returns-in_err-tail : goal.returns-in_err-tail
 returns-in_err-tail g c = search (rules, memory_any)
