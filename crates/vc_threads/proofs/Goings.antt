@@ -294,15 +294,15 @@ pub actor_kept : (plan : Plan) (k n : ℕ) (a b : Seen) → Uses plan k n a b �
 actor_kept plan k n a b p h = run_kept plan k a.clock a.actor p.steps b.actor p.goes.run h
 
 -- what a worker gives back that made n turns
-pub has_run : (refuses : ℕ → ℕ → Type 0) (plan : Plan) (k n m id seed : ℕ) (a b c : WorkerState) (actor : Acting) (ends : Ends) (keeps : Bool) (r : ActorRun)
-    → Uses plan k n (worker_state a) (worker_state b) → Stays (worker_state b) (worker_state c) → n ≤ m
+pub has_run : (refuses : ℕ → ℕ → Type 0) (plan : Plan) (k n m id seed : ℕ) (a : WorkerState) (b : Seen) (c : WorkerState) (actor : Acting) (ends : Ends) (keeps : Bool) (r : ActorRun)
+    → Uses plan k n (worker_state a) b → Stays b (worker_state c) → n ≤ m
     → a.actor ≡ actor → a.clock ≡ 0 → a.keeps ≡ keeps → a.acts.items ≡ [] → a.outs.ends ≡ ends.outs → a.ins ≡ ends.ins → a.words ≡ started 64 multiplier_64 seed (increment_of 64 id)
     → r.actor ≡ c.actor → r.acts ≡ c.acts → r.ends.outs ≡ c.outs.ends → r.ends.ins ≡ c.ins → (r.stop ≡ Turns → n ≡ m) → (r.stop ≡ Gate → (n < m) × refuses id n) → (r.stop ≡ Clock → IsFull c.clock c.ins.items)
     → HasRun refuses plan k m id seed actor ends keeps r
 has_run refuses plan k n m id seed a b c actor ends keeps r p s le actor_is clock_is keeps_is acts_is outs_is ins_is words_is actor' acts' outs' ins' all gate full =
     let last : r.actor ≡ b.actor = actor' ∙ s.actor in
-    let outs = sends_looked p.steps a.outs.ends.items b.outs.ends.items c.outs.ends.items p.goes.outs s.outs in
-    let ins = receives_looked p.steps a.ins.items b.ins.items c.ins.items p.goes.ins s.ins in
+    let outs = sends_looked p.steps a.outs.ends.items b.outs c.outs.ends.items p.goes.outs s.outs in
+    let ins = receives_looked p.steps a.ins.items b.ins c.ins.items p.goes.ins s.ins in
     record {
       steps = p.steps;
       made = n;

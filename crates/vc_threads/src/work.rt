@@ -4,6 +4,7 @@ ghost use Rattle.std.specs.List.{All};
 ghost use Rattle.vc_actor.specs.OfPlan.{IsActorOf};
 ghost use Rattle.vc_network.specs.Plan.{Plan};
 ghost use Rattle.vc_threads.specs.Jobs.{Ran};
+ghost use Rattle.vc_threads.specs.Private.Works.{EndsFor, worker_state};
 ghost use Rattle.vc_threads.specs.Wires.{Distinct, out_links, in_links};
 ghost use Rattle.vc_threads.specs.Works.{HasRun};
 
@@ -25,6 +26,45 @@ fn is_cancelled(cancel: Option<&AtomicBool>) -> bool
         Some(is_cancelled) => is_cancelled.load(Ordering::SeqCst),
         None => false,
     }
+}
+
+// Has the actor make turns, at most so many, as long as the gate lets it, and tells why it ended. Nothing is answered where the run was
+// cancelled.
+fn make_turns<G: Gate, P: Pause>(
+    worker: &mut WorkerState,
+    id: u8,
+    gate: &G,
+    cancel: Option<&AtomicBool>,
+    pause: &P,
+    turns: u64,
+) -> Option<Stop>
+    requires outs { Distinct (out_links worker.old.outs.ends.items) }
+    requires ins { Distinct (in_links worker.old.ins.items) }
+    requires low { All (λ o. o.0 < 32) worker.old.outs.ends.items }
+    ensures ends { IfSome result
+        (EndsFor (G.refuses gate.now id) turns (worker_state worker.old) (worker_state worker.new)) }
+    ensures cancelled { result ≡ None → cancel.entry ≢ None }
+{
+    let mut told = false;
+    let mut rested = None;
+    for turn in 0..turns {
+        if is_cancelled(cancel) {
+            return None;
+        }
+        if !gate.pass(id, turn) {
+            return Some(Stop::Gate);
+        }
+        match worker.turn(rested) {
+            Ok(room) => rested = room,
+            Err(why) => return Some(why),
+        }
+        if !told && worker.idle() < 2 && worker.actor.ended() {
+            gate.ended(id);
+            told = true;
+        }
+        pause.after_idle(worker.idle());
+    }
+    Some(Stop::Turns)
 }
 
 /// Does a job: runs its actor for at most so many turns, as long as the gate lets it. Nothing is answered where the run was cancelled.
@@ -49,27 +89,11 @@ pub(crate) fn run_job<G: Gate, P: Pause>(
         ends,
         keeps,
     } = job;
-    let mut worker_state = WorkerState::new(alloc, id, actor, ends, keeps, seed);
-    let mut told = false;
-    let mut rested = None;
-    for turn in 0..turns {
-        if is_cancelled(cancel) {
-            return None;
-        }
-        if !gate.pass(id, turn) {
-            return Some(worker_state.into_run(id, Stop::Gate));
-        }
-        match worker_state.turn(rested) {
-            Ok(room) => rested = room,
-            Err(why) => return Some(worker_state.into_run(id, why)),
-        }
-        if !told && worker_state.idle() < 2 && worker_state.actor.ended() {
-            gate.ended(id);
-            told = true;
-        }
-        pause.after_idle(worker_state.idle());
-    }
-    Some(worker_state.into_run(id, Stop::Turns))
+    let mut worker = WorkerState::new(alloc, id, actor, ends, keeps, seed);
+    let Some(stop) = make_turns(&mut worker, id, gate, cancel, pause, turns) else {
+        return None;
+    };
+    Some(worker.into_run(id, stop))
 }
 
 /// Runs an actor for at most so many turns, as long as the gate lets it. In a turn it takes the item of the least link from which it

@@ -1,5 +1,5 @@
 -- What a worker does.
-use Rattle.std.specs.Prelude.{◌≡◌, ◌≢◌, ℕ, ◌≤◌, ◌++◌, Bool, List, [], ◌∷◌, length, map, Option, IfSome}
+use Rattle.std.specs.Prelude.{◌≡◌, ◌≢◌, ℕ, ◌<◌, ◌≤◌, ◌++◌, Bool, List, [], ◌∷◌, length, map, Option, IfSome}
 use Rattle.std.specs.List.{AllZip}
 use Rattle.rand_pcg.specs.Lcg.{Lcg}
 use Rattle.rtrb.specs.Ring.{received, SameConsumer}
@@ -90,6 +90,18 @@ pub record StopsFor (a b : Seen) (why : Stop) : Type 0 where
   pub early : why ≢ Turns
   pub passed : why ≢ Gate
   pub full : why ≡ Clock → IsFull b.clock b.ins
+
+-- What a worker did until it ended: turns that it used, at most so many, and nothing behind them. It made all where it ended by its
+-- turns, and where it ended by its gate that may refuse it the next one. For its clock it ended only where that is full.
+pub record EndsFor (refuses : ℕ → Type 0) (turns : ℕ) (a b : Seen) (stop : Stop) : Type 0 where
+  pub made : ℕ
+  pub within : made ≤ turns
+  pub last : Seen
+  pub uses : (plan : Plan) (k : ℕ) → IsActorOf plan k a.actor → Uses plan k made a last
+  pub stays : Stays last b
+  pub all : stop ≡ Turns → made ≡ turns
+  pub gate : stop ≡ Gate → (made < turns) × refuses made
+  pub full : stop ≡ Clock → IsFull b.clock b.ins
 
 -- the take of this item from this link
 abbrev pub take_of : ℕ × Act → ℕ → Stamped → Turn Act Token
