@@ -39,13 +39,13 @@ pub struct Running {
     task: Task<Frame>,
     vars: Vec<Datum>,
     inside: InnerChannels,
-    waiters: Waiters,
+    waiters: Box<Waiters>,
     ghost has_variables: { HasVariables (whole task) (length vars.items) },
     ghost in_preorder: { InPreorder (whole task) } by { InPreorder-prop (whole task) },
     ghost own_sites: { OwnSites (remains task) } by { OwnSites-prop (remains task) },
     ghost uses_lawfully: { UsesLawfully (remains task) } by { UsesLawfully-prop (remains task) },
     ghost sound: { (shown task).sound ≡ true },
-    ghost waiting: { AllWait waiters (waiting (remains task)) },
+    ghost waiting: { AllWait waiters.value (waiting (remains task)) },
 }
 
 impl Drop for Running {
@@ -220,7 +220,7 @@ impl Running {
         let vars = empty_variables(alloc, kinds)?;
         let inside = InnerChannels::new(alloc, inside)?;
         let task = task_of(alloc, process, &mut 0)?;
-        let waiters = Waiters::new();
+        let waiters = Box::new(alloc, Waiters::new())?;
         Ok(Running {
             alloc,
             task,
@@ -496,7 +496,7 @@ impl Running {
         ensures inside { inner_channels self.new ≡ inner_channels self.old }
     {
         // on which channel it waited is not known here
-        self.waiters = Waiters::new();
+        *self.waiters = Waiters::new();
         self.task.go(&mut Resume { site, message }, &mut self.vars);
     }
 

@@ -14,6 +14,7 @@ use Rattle.vc_occam.proofs.Sent.{frame_field}
 use Rattle.vc_process.proofs.datum.Datum.TheSendSync as datum
 use Rattle.vc_occam.specs.contracts.moves.Move as Move
 use Rattle.vc_occam.proofs.moves.Move.TheSendSync as move
+use Rattle.vc_occam.proofs.waiters.Waiters.TheSendSync as waiters
 use Rattle.vc_actor.proofs.act.Act.TheSendSync as act
 use Rattle.vc_threads.specs.contracts.spawn.Job as Job
 use Rattle.vc_threads.specs.contracts.run.ActorRun as ActorRun
@@ -28,7 +29,7 @@ items_send : IsSend (Items.the_row u16)
 items_send = search (sendable, crosses) depth 20
 
 running_field : IsSend Running.the_field.row
-running_field = search (sendable, crosses, frame_field, datum_send, items_send) depth 20
+running_field = search (sendable, crosses, frame_field, datum_send, items_send, waiters.the_send) depth 20
 
 node_field : IsSend Node.the_field.row
 node_field = search (sendable, crosses, vcp.the_send, running_field, inside.the_send) depth 20

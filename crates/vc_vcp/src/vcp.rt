@@ -45,8 +45,8 @@ pub struct Vcp {
     outs: Vec<LinkOut>,
     ins: Vec<LinkIn>,
     strays: u64,
-    output_hints: Hints,
-    input_hints: Hints,
+    output_hints: Box<Hints>,
+    input_hints: Box<Hints>,
 }
 
 impl Drop for Vcp {
@@ -99,8 +99,8 @@ impl Vcp {
     {
         let outputs = opening::outputs(alloc, ends)?;
         let inputs = opening::inputs(alloc, ends)?;
-        let output_hints = Hints::of_outputs(&outputs);
-        let input_hints = Hints::of_inputs(&inputs);
+        let output_hints = Box::new(alloc, Hints::of_outputs(&outputs))?;
+        let input_hints = Box::new(alloc, Hints::of_inputs(&inputs))?;
         Ok(Vcp {
             alloc,
             outputs,

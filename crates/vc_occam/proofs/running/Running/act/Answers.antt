@@ -62,7 +62,7 @@ invariant_of-self-clause-waiting c =
     let fits = subst (λ (m : Move). FitsMove m (sent_by before m) c.args.answer) c.in-Inner.is c.requires.fits in
     let acts = acts_met before after i j k d c.args.answer self.uses_lawfully fits (subst (λ (m : Move). HasMet before i d m c.args.answer after) c.partner-taken.ensures c.meet.ensures.met) in
     let kept = waits_after before after (doing (move.Inner i j k d) (sent_by before (move.Inner i j k d)) c.args.answer) acts.0 acts.1 in
-    all_stay self.waiters _ _ (λ w. (kept w).1) self.waiting
+    all_stay self.waiters.value _ _ (λ w. (kept w).1) self.waiting
 
 pub returns-in-Inner-clause-made : goal.returns-in-Inner-clause-made
 unfolding state inner_channels

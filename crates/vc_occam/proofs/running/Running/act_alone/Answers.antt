@@ -1,10 +1,11 @@
 use Rattle.std.proofs.Common.{◌∙◌, ap, ℕ, Option, length, subst, sym}
+use Rattle.vc_occam.specs.declared.waiters.Waiters.{Waiters}
 use Rattle.vc_occam.specs.declared.waits.Waits.{Waits}
 use Rattle.vc_occam.specs.Frames.{remains}
 use Rattle.vc_occam.specs.Private.Frames.{HasVariables, whole}
 use Rattle.vc_occam.specs.Private.Sites.{InPreorder}
 use Rattle.vc_occam.specs.Runnings.{state, inner_channels}
-use Rattle.vc_occam.specs.Private.Waiters.{wait_of}
+use Rattle.vc_occam.specs.Private.Waiters.{AllWait, wait_of}
 use Rattle.vc_occam.specs.States.{State, waiting}
 use Rattle.vc_process.specs.Syntax.{Proc}
 use Rattle.vc_process.specs.Terms.{store}
@@ -36,13 +37,14 @@ invariant_of-self c =
     let after = c.go_alone.ensures in
     let alone = own_alone (remains self.task) (store self.vars.items) made c.requires.listed in
     let waits = waits_by made c.args.answer _ _ _ alone (step_waits after.did.1) in
-    let is = c.wait_of.ensures ∙ ap (wait_of made) c.has_none-has_none.ensures in record {
+    let is = c.wait_of.ensures ∙ ap (wait_of made) c.has_none-has_none.ensures in
+    let noted = subst (λ (w : Waiters). AllWait w (waiting (remains self.task))) (sym c.deref_mut.ensures.value) self.waiting in record {
       has_variables = subst (λ (p : Proc). HasVariables p (length c.go_alone.new.vars.items)) (sym after.plan) (subst (HasVariables (whole self.task)) (sym after.length) self.has_variables);
       in_preorder = subst InPreorder (sym after.plan) self.in_preorder;
       own_sites = (step_keeps after.did.1 self.own_sites).1;
       uses_lawfully = step_uses after.did.1 self.uses_lawfully;
       sound = after.sound;
-      waiting = begun_waits self.waiters c.note.new.self _ _ c.wait_of.result (subst (λ (o : Option (Waits × ℕ)). WaitsBy o (waiting (remains self.task)) (waiting (remains c.go_alone.new.task))) (sym is) waits) c.note.ensures.only self.waiting;
+      waiting = begun_waits c.deref_mut.result.now c.note.new.self _ _ c.wait_of.result (subst (λ (o : Option (Waits × ℕ)). WaitsBy o (waiting (remains self.task)) (waiting (remains c.go_alone.new.task))) (sym is) waits) c.note.ensures.only noted;
     }
 
 pub returns-clause-made : goal.returns-clause-made

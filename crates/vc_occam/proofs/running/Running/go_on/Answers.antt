@@ -1,6 +1,10 @@
+use Rattle.std.proofs.Common.{subst, sym}
+use Rattle.vc_occam.specs.declared.waiters.Waiters.{Waiters}
 use Rattle.vc_occam.specs.Frames.{remains}
 use Rattle.vc_occam.specs.Private.MoveSites.{at}
+use Rattle.vc_occam.specs.Private.Waiters.{AllWait}
 use Rattle.vc_occam.specs.Runnings.{state}
+use Rattle.vc_occam.specs.States.{waiting}
 use Rattle.vc_process.specs.Terms.{store}
 use Rattle.vc_occam.proofs.Made.{able_on}
 use Rattle.vc_occam.proofs.NotedWaits.{awaits, one_less, went_on}
@@ -31,13 +35,14 @@ invariant_of-self c =
     let did = task_did _ _ _ c.go.result c.go.new.self _ c.go.ensures.begins went in
     let before = at (remains self.task) (store self.vars.items) in
     let after = at (remains c.go.new.self) (store c.go.new.vars.items) in
-    let gone = went_on before after c.args.wanted c.args.message c.in-Some.site self.own_sites self.uses_lawfully c.requires did c.in-Some.ensures in record {
+    let gone = went_on before after c.args.wanted c.args.message c.in-Some.site self.own_sites self.uses_lawfully c.requires did c.in-Some.ensures in
+    let noted = subst (λ (w : Waiters). AllWait w (waiting (remains self.task))) (sym c.deref_mut.ensures.value) self.waiting in record {
       has_variables = same_variables _ _ went c.go.ensures.length self.has_variables;
       in_preorder = same_preorder went self.in_preorder;
       own_sites = (step_keeps did.1 self.own_sites).1;
       uses_lawfully = step_uses did.1 self.uses_lawfully;
       sound = went.sound;
-      waiting = one_less self.waiters c.forget.new.self _ _ c.args.wanted gone.gone gone.less gone.apart c.forget.ensures self.waiting;
+      waiting = one_less c.deref_mut.result.now c.forget.new.self _ _ c.args.wanted gone.gone gone.less gone.apart c.forget.ensures noted;
     }
 
 pub returns-clause-went : goal.returns-clause-went

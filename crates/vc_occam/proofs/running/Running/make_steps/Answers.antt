@@ -36,7 +36,7 @@ invariant_of-self c =
       own_sites = subst OwnSites left kept.0;
       uses_lawfully = subst UsesLawfully left kept.1;
       sound = stepped_sound steps;
-      waiting = subst (λ (q : Rest). AllWait r.waiters (waiting q)) left (all_stay r.waiters _ _ (same_stay _ _ (steps_wait steps)) r.waiting);
+      waiting = subst (λ (q : Rest). AllWait r.waiters.value (waiting q)) left (all_stay r.waiters.value _ _ (same_stay _ _ (steps_wait steps)) r.waiting);
     }
 
 pub returns-then-steps-gt0-clause-made : goal.returns-then-steps-gt0-clause-made

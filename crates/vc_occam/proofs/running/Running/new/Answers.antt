@@ -1,5 +1,6 @@
 use Rattle.std.proofs.Common.{◌≡◌, ◌∙◌, ap, sym, subst, ℕ, length, List}
 use Rattle.vc_process.specs.declared.datum.Datum.{Datum}
+use Rattle.vc_occam.specs.declared.waiters.Waiters.{Waiters}
 use Rattle.vc_occam.specs.Frames.{View, begun, remains, task_view}
 use Rattle.vc_occam.specs.InUse.{UsesLawfully}
 use Rattle.vc_occam.specs.Private.Frames.{HasVariables, seen_task}
@@ -30,7 +31,7 @@ invariant_of-result c =
       own_sites = subst (λ (v : View). OwnSites v.rest) is (at_first p);
       uses_lawfully = subst (λ (v : View). UsesLawfully v.rest) is (begins (written p) c.requires.lawful);
       sound = ap (λ (v : View). v.sound) (sym is);
-      waiting = none_waits _ _ c.new-waiters.ensures.outputs c.new-waiters.ensures.inputs;
+      waiting = none_waits _ _ (ap (λ (w : Waiters). w.outputs) c.in_ok-waiters.ensures.ok ∙ c.new-2.ensures.outputs) (ap (λ (w : Waiters). w.inputs) c.in_ok-waiters.ensures.ok ∙ c.new-2.ensures.inputs);
     }
 
 pub returns-clause-state : goal.returns-clause-state

@@ -35,7 +35,7 @@ invariant_of-self c =
       own_sites = (step_keeps did.1 self.own_sites).1;
       uses_lawfully = step_uses did.1 self.uses_lawfully;
       sound = went.sound;
-      waiting = none_waits _ _ c.new-self.ensures.outputs c.new-self.ensures.inputs;
+      waiting = none_waits _ _ c.new.ensures.outputs c.new.ensures.inputs;
     }
 
 pub returns-clause-resumed : goal.returns-clause-resumed

@@ -41,7 +41,7 @@ invariant_of-self c =
       own_sites = (step_keeps did.1 self.own_sites).1;
       uses_lawfully = step_uses did.1 self.uses_lawfully;
       sound = went.sound;
-      waiting = all_stay self.waiters _ _ (same_stay _ _ (step_waits did.1)) self.waiting;
+      waiting = all_stay self.waiters.value _ _ (same_stay _ _ (step_waits did.1)) self.waiting;
     }
 
 pub returns-clause-made : goal.returns-clause-made
