@@ -11,7 +11,7 @@ use vc_core::{Act, Actor, actors};
 use vc_plan::check;
 use vc_reader::read_network;
 use vc_threads::{
-    ActorRun, ClosableGate, EndGate, Ends, Gate, LinkRule, Stamped, Stop, merge, next_stamp, worker,
+    ActorRun, EndGate, Ends, Gate, LinkRule, Stamped, Stop, merge, next_stamp, worker,
 };
 use vc_tokens::Token;
 
@@ -124,33 +124,23 @@ fn a_worker_takes_and_then_ends(rt: HostRuntime) -> Result<(), Fail> {
     Ok(())
 }
 
-/// Closes a gate in a turn, before it asks it.
+/// Refuses one turn.
 #[derive(Drop)]
-struct ClosesIn<'g> {
-    turn: u64,
-    gate: &'g ClosableGate<'g, EndGate>,
-}
+struct RefusesTurn(u64);
 
-impl<'g> Gate for ClosesIn<'g> {
-    fn pass(&self, actor: u8, turn: u64) -> bool {
-        if turn == self.turn {
-            self.gate.close();
-        }
-        self.gate.pass(actor, turn)
+impl Gate for RefusesTurn {
+    fn pass(&self, _actor: u8, turn: u64) -> bool {
+        turn != self.0
     }
 
-    fn ended(&self, actor: u8) {
-        self.gate.ended(actor);
-    }
+    fn ended(&self, _actor: u8) {}
 }
 
 #[test]
-fn a_worker_ends_at_the_turn_in_which_its_gate_closes(rt: HostRuntime) -> Result<(), Fail> {
-    let never = EndGate::new(9);
+fn a_worker_ends_at_the_turn_that_its_gate_refuses(rt: HostRuntime) -> Result<(), Fail> {
     for turn in 0..2 {
-        let gate = ClosableGate::new(&never);
-        let made = skipped(&rt, rt.alloc(), &ClosesIn { turn, gate: &gate })?;
-        assert!(rt; made.stop == Stop::Gate && !gate.pass(0, 9));
+        let made = skipped(&rt, rt.alloc(), &RefusesTurn(turn))?;
+        assert!(rt; made.stop == Stop::Gate);
         assert_eq!(rt; made.acts.len() as u64, turn);
     }
     Ok(())

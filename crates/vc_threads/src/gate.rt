@@ -1,8 +1,8 @@
 //! Who may go on.
-ghost use Rattle.std.specs.Prelude.{◌≡◌, false, true};
+ghost use Rattle.std.specs.Prelude.{◌≡◌};
 
 use std::marker::Model;
-use std::sync::atomic::{AtomicBool, AtomicU64, Ordering};
+use std::sync::atomic::{AtomicU64, Ordering};
 
 /// Says of each turn whether an actor may make it. Contracts know of each actor and turn whether the gate may refuse it; a gate that does
 /// not say may refuse any.
@@ -67,54 +67,4 @@ impl Gate for EndGate {
             self.ended.fetch_or(1u64 << actor, Ordering::SeqCst);
         }
     }
-}
-
-/// A gate in front of another: it answers as that one does until it is closed, and no from then on. Contracts see the other gate.
-#[derive(Drop)]
-pub struct ClosableGate<'g, G> {
-    gate: &'g G,
-    is_closed: AtomicBool,
-}
-
-impl<'g, G> Model for ClosableGate<'g, G> {
-    ghost Value = { G };
-
-    ghost view = { λ closable. closable.gate.now };
-}
-
-impl<'g, G> ClosableGate<'g, G> {
-    /// The gate in front of this one, not closed yet.
-    pub fn new(gate: &'g G) -> ClosableGate<'g, G>
-        ensures { result ≡ gate.now }
-    {
-        ClosableGate {
-            gate,
-            is_closed: AtomicBool::new(false),
-        }
-    }
-
-    /// Closes the gate for good: each worker that asks it ends at its next turn.
-    pub fn close(&self) {
-        self.is_closed.store(true, Ordering::SeqCst);
-    }
-}
-
-impl<'g, G: Gate> Gate for ClosableGate<'g, G> {
-    fn pass(&self, actor: u8, turn: u64) -> bool {
-        let is_closed = self.is_closed.load(Ordering::SeqCst);
-        pass_unless(is_closed, || self.gate.pass(actor, turn))
-    }
-
-    fn ended(&self, actor: u8) {
-        self.gate.ended(actor);
-    }
-}
-
-// The other gate's answer, unless this one is closed.
-fn pass_unless<F: FnOnce() -> bool>(is_closed: bool, pass: F) -> bool
-    requires { F.pre pass }
-    ensures closed { is_closed ≡ true → result ≡ false }
-    ensures open { is_closed ≡ false → F.post pass result }
-{
-    !is_closed && pass()
 }

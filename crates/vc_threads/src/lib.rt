@@ -23,7 +23,7 @@ mod threads;
 mod work;
 mod worker_state;
 
-pub use gate::{ClosableGate, EndGate, Gate};
+pub use gate::{EndGate, Gate};
 pub use link::{Ends, In, LinkRule, Out, Stamped};
 pub use merged_runs::merge;
 pub use report::{Ending, Report};
