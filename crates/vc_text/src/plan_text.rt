@@ -1,33 +1,29 @@
 //! Names and paths of a plan.
 ghost use Rattle.std.specs.Prelude.{◌≡◌, ◌++◌, OnErr, OnOk};
-ghost use Rattle.vc_text.specs.FaultLine.{value_text, hop_text, way_text, start_text, last_text, path_text};
+ghost use Rattle.vc_text.specs.FaultLine.{hop_text, way_text, start_text, last_text, path_text};
 ghost use Rattle.std.specs.List.{flat_map};
 
+use itoa::Buffer;
 use vc_packets::Memory;
 use vc_plan::{Hop, PathFault, Plan};
-use vc_waits::{push_number, push_port};
+use vc_waits::{push_port, push_texts};
 
-/// The random header that was put in front, where one was.
-fn push_value(out: &mut Vec<u8>, value: Option<u16>) -> Result<(), Memory>
-    ensures { OnOk result (out.new.items ≡ out.old.items ++ value_text value) }
-{
-    if let Some(value) = value {
-        out.extend_from_slice(b"+")?;
-        push_number(out, value as u64)?;
-    }
-    Ok(())
-}
-
-/// Adds a passage through a switch to a text, as ` SWITCH.LINK` or ` SWITCH+VALUE.LINK`. It fails for want of memory alone. What it has
-/// added then is not promised.
+/// Adds a passage through a switch to a text, as ` SWITCH.LINK` or ` SWITCH+VALUE.LINK`. It fails for want of memory alone, and the text is
+/// then as it was.
 pub fn push_hop(out: &mut Vec<u8>, plan: &Plan, hop: &Hop) -> Result<(), Memory>
-    ensures { OnOk result (out.new.items ≡ out.old.items ++ hop_text plan.now hop.now) }
+    ensures ok { OnOk result (out.new.items ≡ out.old.items ++ hop_text plan.now hop.now) }
+    ensures err { OnErr result (out.new.items ≡ out.old.items) }
 {
-    out.extend_from_slice(b" ")?;
-    out.extend_from_slice(plan.switch_name(usize::from(hop.switch)))?;
-    push_value(out, hop.value)?;
-    out.extend_from_slice(b".")?;
-    push_number(out, hop.link as u64)
+    let name = plan.switch_name(usize::from(hop.switch));
+    let (mut value, mut link) = (Buffer::new(), Buffer::new());
+    let link = link.format(hop.link).as_bytes();
+    match hop.value {
+        Some(drawn) => {
+            let value = value.format(drawn).as_bytes();
+            push_texts(out, &[b" ", name, b"+", value, b".", link])
+        }
+        None => push_texts(out, &[b" ", name, b".", link]),
+    }
 }
 
 fn push_hops(out: &mut Vec<u8>, plan: &Plan, hops: &[Hop]) -> Result<(), Memory>
@@ -65,14 +61,19 @@ fn push_start(out: &mut Vec<u8>, plan: &Plan, fault: &PathFault) -> Result<(), M
     push_port(out, plan, fault.start)
 }
 
-/// Adds the place where the fault of a path shows to a text. It fails for want of memory alone. What it has added then is not promised.
-#[tactic(auto, using(std::proofs::Common::append_assoc))]
+/// Adds the place where the fault of a path shows to a text. It fails for want of memory alone, and the text is then as it was.
 pub fn push_last(out: &mut Vec<u8>, plan: &Plan, fault: &PathFault) -> Result<(), Memory>
-    ensures { OnOk result (out.new.items ≡ out.old.items ++ last_text plan.now fault.now) }
+    ensures ok { OnOk result (out.new.items ≡ out.old.items ++ last_text plan.now fault.now) }
+    ensures err { OnErr result (out.new.items ≡ out.old.items) }
 {
-    out.extend_from_slice(b" ")?;
-    out.extend_from_slice(plan.spot_name(fault.last))?;
-    push_value(out, fault.value)
+    let name = plan.spot_name(fault.last);
+    match fault.value {
+        Some(drawn) => {
+            let mut value = Buffer::new();
+            push_texts(out, &[b" ", name, b"+", value.format(drawn).as_bytes()])
+        }
+        None => push_texts(out, &[b" ", name]),
+    }
 }
 
 /// A path that doesn't deliver.

@@ -1,22 +1,24 @@
 //! The line for a network file that is refused.
-ghost use Rattle.std.specs.Prelude.{◌≡◌, ◌++◌, OnOk};
+ghost use Rattle.std.specs.Prelude.{◌≡◌, ◌++◌, OnErr, OnOk};
 ghost use Rattle.vc_text.specs.FaultLine.{step_text, steps_text, read_line as line_of_refused};
 
+use itoa::Buffer;
 use vc_packets::Memory;
 use vc_reader::{Path, ReadRefused, Step};
-use vc_waits::push_number;
+use vc_waits::push_texts;
 
-/// Adds a step of a path to a text: `/`, and the field or the index. It fails for want of memory alone. What it has added then is not
-/// promised.
+/// Adds a step of a path to a text: `/`, and the field or the index. It fails for want of memory alone, and the text is then as it was.
 pub fn push_step(out: &mut Vec<u8>, step: Step) -> Result<(), Memory>
-    ensures { OnOk result (out.new.items ≡ out.old.items ++ step_text step) }
+    ensures ok { OnOk result (out.new.items ≡ out.old.items ++ step_text step) }
+    ensures err { OnErr result (out.new.items ≡ out.old.items) }
 {
-    out.extend_from_slice(b"/")?;
     match step {
-        Step::Field(word) => out.extend_from_slice(word.text().as_bytes())?,
-        Step::Index(n) => push_number(out, n as u64)?,
+        Step::Field(word) => push_texts(out, &[b"/", word.text().as_bytes()]),
+        Step::Index(n) => {
+            let mut digits = Buffer::new();
+            push_texts(out, &[b"/", digits.format(n).as_bytes()])
+        }
     }
-    Ok(())
 }
 
 fn push_steps(out: &mut Vec<u8>, path: &Path) -> Result<(), Memory>

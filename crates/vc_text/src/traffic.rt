@@ -1,11 +1,10 @@
 //! The text of a network's traffic.
-ghost use Rattle.std.specs.Prelude.{◌≡◌, ◌++◌, ◌+◌, map, OnOk, IfOk};
+ghost use Rattle.std.specs.Prelude.{◌≡◌, ◌++◌, ◌+◌, map, OnErr, OnOk, IfOk};
 ghost use Rattle.vc_blocks.specs.Messages.{listed};
 ghost use Rattle.vc_text.specs.Streams.{Writes};
 ghost use Rattle.vc_text.specs.Views.{shown};
 ghost use Rattle.vc_text.specs.Traffic.{bytes_text, value_text, message_line, message_lines, channel_line, close_text, counts_text, traffic};
 ghost use Rattle.hex.specs.Hex.{encode_lower};
-ghost use Rattle.vc_waits.specs.Waits.{stop_text};
 
 use crate::fault::RunFault;
 use crate::streams::write_text;
@@ -17,7 +16,7 @@ use vc_core::Close;
 use vc_occam::ValueKind;
 use vc_packets::Memory;
 use vc_process::number_in;
-use vc_waits::push_number;
+use vc_waits::{push_number, push_texts};
 
 /// What a channel is and has done.
 #[derive(Clone, Copy, Drop)]
@@ -37,7 +36,8 @@ pub struct ChannelView<'a> {
 }
 
 fn push_bytes(out: &mut Vec<u8>, message: &[u8]) -> Result<(), Memory>
-    ensures { OnOk result (out.new.items ≡ out.old.items ++ bytes_text message.now) }
+    ensures ok { OnOk result (out.new.items ≡ out.old.items ++ bytes_text message.now) }
+    ensures err { OnErr result (out.new.items ≡ out.old.items) }
 {
     if message.is_empty() {
         out.extend_from_slice(b"-")?;
@@ -48,28 +48,31 @@ fn push_bytes(out: &mut Vec<u8>, message: &[u8]) -> Result<(), Memory>
 
 /// Adds two digits for each byte: room is made for them by the bytes themselves, twice.
 fn push_digits(out: &mut Vec<u8>, message: &[u8]) -> Result<(), Memory>
-    ensures { OnOk result (out.new.items ≡ out.old.items ++ encode_lower message.now) }
+    ensures ok { OnOk result (out.new.items ≡ out.old.items ++ encode_lower message.now) }
+    ensures err { OnErr result (out.new.items ≡ out.old.items) }
 {
     let start = out.len();
-    out.extend_from_slice(message)?;
-    out.extend_from_slice(message)?;
+    push_texts(out, &[message, message])?;
     let (_, digits) = out.as_mut_slice().split_at_mut(start);
     let _written = hex::encode_to_slice(message, digits);
     Ok(())
 }
 
 fn push_int(out: &mut Vec<u8>, message: &[u8]) -> Result<(), Memory>
-    ensures { OnOk result (out.new.items ≡ out.old.items ++ value_text ValueKind.Int message.now) }
+    ensures ok { OnOk result
+        (out.new.items ≡ out.old.items ++ value_text ValueKind.Int message.now) }
+    ensures err { OnErr result (out.new.items ≡ out.old.items) }
 {
     let mut buffer = Buffer::new();
     out.extend_from_slice(buffer.format(number_in(message)).as_bytes())?;
     Ok(())
 }
 
-/// Adds a message to a text: an int in decimal, and bytes in hexadecimal, or `-` for none. It fails for want of memory alone. What it has
-/// added then is not promised.
+/// Adds a message to a text: an int in decimal, and bytes in hexadecimal, or `-` for none. It fails for want of memory alone, and the
+/// text is then as it was.
 pub fn push_value(out: &mut Vec<u8>, kind: ValueKind, message: &[u8]) -> Result<(), Memory>
-    ensures { OnOk result (out.new.items ≡ out.old.items ++ value_text kind message.now) }
+    ensures ok { OnOk result (out.new.items ≡ out.old.items ++ value_text kind message.now) }
+    ensures err { OnErr result (out.new.items ≡ out.old.items) }
 {
     match kind {
         ValueKind::Int => push_int(out, message),
@@ -101,28 +104,25 @@ fn push_messages(out: &mut Vec<u8>, kind: ValueKind, messages: Messages<'_>) -> 
     Ok(())
 }
 
-fn push_stopped(out: &mut Vec<u8>, is_stopped: bool) -> Result<(), Memory>
-    ensures { OnOk result (out.new.items ≡ out.old.items ++ stop_text is_stopped) }
-{
-    if is_stopped {
-        out.extend_from_slice(b" stopped")?;
-    }
-    Ok(())
-}
-
 /// Adds to a text how many messages of a channel were offered, taken and finished, and whether it was stopped. It fails for want of
-/// memory alone. What it has added then is not promised.
-#[tactic(auto, using(std::proofs::Common::append_assoc))]
+/// memory alone, and the text is then as it was.
 pub fn push_counts(out: &mut Vec<u8>, view: &ChannelView<'_>) -> Result<(), Memory>
-    ensures { OnOk result (out.new.items ≡ out.old.items ++ counts_text (shown view.now)) }
+    ensures ok { OnOk result
+        (out.new.items ≡ out.old.items ++ counts_text (shown view.now)) }
+    ensures err { OnErr result (out.new.items ≡ out.old.items) }
 {
-    out.extend_from_slice(b"offered ")?;
-    push_number(out, view.offered as u64)?;
-    out.extend_from_slice(b" taken ")?;
-    push_number(out, view.taken.len() as u64)?;
-    out.extend_from_slice(b" finished ")?;
-    push_number(out, view.finished)?;
-    push_stopped(out, view.is_stopped)
+    let (mut offered, mut taken) = (Buffer::new(), Buffer::new());
+    let mut finished = Buffer::new();
+    let texts: [&[u8]; 7] = [
+        b"offered ",
+        offered.format(view.offered).as_bytes(),
+        b" taken ",
+        taken.format(view.taken.len()).as_bytes(),
+        b" finished ",
+        finished.format(view.finished).as_bytes(),
+        if view.is_stopped { b" stopped" } else { b"" },
+    ];
+    push_texts(out, &texts)
 }
 
 #[tactic(auto, using(std::proofs::Common::append_assoc))]

@@ -1,4 +1,3 @@
-pub mod BlockWords
 pub mod Folds
 pub mod Meanings
 pub mod PacketPlaces

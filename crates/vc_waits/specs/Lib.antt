@@ -1,4 +1,3 @@
-pub mod Fronts
 pub mod Meaning
 pub mod Packets
 pub mod Paths

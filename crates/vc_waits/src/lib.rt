@@ -10,10 +10,12 @@ mod number;
 mod packets;
 mod paths;
 mod port;
+mod texts;
 mod waits;
 
 pub use laws::words_are_so;
 pub use number::push_number;
 pub use packets::{places, push_place, push_ports, push_waits};
 pub use port::push_port;
+pub use texts::push_texts;
 pub use waits::{blocked_word, process_paths, push_blocked};

@@ -1,32 +1,18 @@
 //! The text of who waits for what.
-ghost use Rattle.std.specs.Prelude.{◌≡◌, ◌++◌, IfOk, OnOk};
+ghost use Rattle.std.specs.Prelude.{◌≡◌, ◌++◌, IfOk, OnErr, OnOk};
 ghost use Rattle.vc_core.specs.State.{IsNetworkOf, state_of};
 ghost use Rattle.vc_waits.specs.Waits.{blocked_line, blocked_lines, blocked_text, blocked_word as word_of, channel_text, node_lines, path_text, process_path, processes_text, site_text, state_in};
 ghost use Rattle.vc_waits.specs.Paths.{paths as paths_of};
 
 use crate::number::push_number;
 use crate::paths::push_paths;
+use crate::texts::push_texts;
 use sqlite_items::Items;
 use std::alloc::Global;
 use vc_core::Network;
 use vc_occam::Blocked;
 use vc_packets::{Bytes, Memory};
 use vc_plan::{NodePlan, Plan};
-
-/// A channel's name, and whether a process has stopped it.
-fn push_channel(out: &mut Vec<u8>, plan: &Plan, network: &Network, chan: u16) -> Result<(), Memory>
-    requires { IsNetworkOf plan.now (state_of network.now) }
-    ensures { OnOk result (out.new.items
-        ≡ out.old.items ++ channel_text plan.now (state_in network.now) chan) }
-{
-    if let Some(channel) = plan.channels.get(usize::from(chan)) {
-        out.extend_from_slice(channel.name.as_slice())?;
-        if network.stopped(chan) {
-            out.extend_from_slice(b" stopped")?;
-        }
-    }
-    Ok(())
-}
 
 /// The path of the process that has a site.
 fn path_of(paths: &[Bytes], site: u16) -> &[u8]
@@ -39,15 +25,59 @@ fn path_of(paths: &[Bytes], site: u16) -> &[u8]
 }
 
 /// The path of the process that has a site, between a space and what is said of it.
-#[tactic(auto, using(std::proofs::Common::append_assoc))]
 fn push_site(out: &mut Vec<u8>, paths: &[Bytes], site: u16, what: &[u8]) -> Result<(), Memory>
-    ensures { OnOk result (out.new.items
+    ensures ok { OnOk result (out.new.items
         ≡ out.old.items ++ site_text paths.now site what.now) }
+    ensures err { OnErr result (out.new.items ≡ out.old.items) }
 {
-    out.extend_from_slice(b" ")?;
-    out.extend_from_slice(path_of(paths, site))?;
-    out.extend_from_slice(what)?;
-    Ok(())
+    push_texts(out, &[b" ", path_of(paths, site), what])
+}
+
+/// A channel's name, and whether a process has stopped it.
+fn push_channel(out: &mut Vec<u8>, plan: &Plan, network: &Network, chan: u16) -> Result<(), Memory>
+    requires { IsNetworkOf plan.now (state_of network.now) }
+    ensures ok { OnOk result (out.new.items
+        ≡ out.old.items ++ channel_text plan.now (state_in network.now) chan) }
+    ensures err { OnErr result (out.new.items ≡ out.old.items) }
+{
+    let Some(channel) = plan.channels.get(usize::from(chan)) else {
+        return Ok(());
+    };
+    let texts: [&[u8]; 2] = [
+        channel.name.as_slice(),
+        if network.stopped(chan) {
+            b" stopped"
+        } else {
+            b""
+        },
+    ];
+    push_texts(out, &texts)
+}
+
+/// The path of the process that has a site, what is said of it, and the channel on which it waits.
+#[tactic(auto, using(std::proofs::Common::append_assoc))]
+fn push_site_on(
+    out: &mut Vec<u8>,
+    plan: &Plan,
+    network: &Network,
+    paths: &[Bytes],
+    site: u16,
+    what: &[u8],
+    chan: u16,
+) -> Result<(), Memory>
+    requires { IsNetworkOf plan.now (state_of network.now) }
+    ensures ok { OnOk result (out.new.items ≡ out.old.items
+        ++ (site_text paths.now site what.now
+        ++ channel_text plan.now (state_in network.now) chan)) }
+    ensures err { OnErr result (out.new.items ≡ out.old.items) }
+{
+    let start = out.len();
+    push_site(out, paths, site, what)?;
+    let named = push_channel(out, plan, network, chan);
+    if named.is_err() {
+        out.truncate(start);
+    }
+    named
 }
 
 /// The word for a part of a process that does not go on by itself: it waits, or it has stopped.
@@ -64,7 +94,7 @@ pub fn blocked_word(blocked: Blocked) -> &'static str
 }
 
 /// Adds to a text where a part of a process is that does not go on by itself, and what it waits for or how it has stopped. It fails for
-/// want of memory alone. What it has added then is not promised.
+/// want of memory alone, and the text is then as it was.
 #[tactic(auto, unfolding(crate::specs::Waits::blocked_text))]
 pub fn push_blocked(
     out: &mut Vec<u8>,
@@ -74,21 +104,27 @@ pub fn push_blocked(
     blocked: Blocked,
 ) -> Result<(), Memory>
     requires { IsNetworkOf plan.now (state_of network.now) }
-    ensures { OnOk result (out.new.items
+    ensures ok { OnOk result (out.new.items
         ≡ out.old.items ++ blocked_text plan.now (state_in network.now) paths.now blocked) }
+    ensures err { OnErr result (out.new.items ≡ out.old.items) }
 {
     match blocked {
         Blocked::Output { site, chan } => {
-            push_site(out, paths, site, b" for the end of its output on ")?;
-            push_channel(out, plan, network, chan)
+            push_site_on(
+                out,
+                plan,
+                network,
+                paths,
+                site,
+                b" for the end of its output on ",
+                chan,
+            )
         }
         Blocked::Input { site, chan } => {
-            push_site(out, paths, site, b" for an input on ")?;
-            push_channel(out, plan, network, chan)
+            push_site_on(out, plan, network, paths, site, b" for an input on ", chan)
         }
         Blocked::Guard { site, chan } => {
-            push_site(out, paths, site, b" for a guard on ")?;
-            push_channel(out, plan, network, chan)
+            push_site_on(out, plan, network, paths, site, b" for a guard on ", chan)
         }
         Blocked::Closed { site } => {
             push_site(out, paths, site, b" at an ALT without an open guard")
