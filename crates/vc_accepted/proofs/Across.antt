@@ -1,5 +1,6 @@
 -- A way leaves by a port and comes in by the port across from it.
 use Rattle.std.proofs.Common.{◌≡◌, ℕ, zero, suc, ◌+◌, ◌*◌, ◌/◌, ◌%◌, ◌<◌, Bool, true, false, not, ◌==◌, List, [], ◌∷◌, length, map, slice_get, Some, refl, sym, ap, subst, ◌∙◌, arith, if◌then◌else◌, eq-eqb}
+use Rattle.std.proofs.lemmas.Option.{same_Some}
 use Rattle.vc_plan.specs.declared.plan.Plan.{Plan}
 use Rattle.vc_plan.specs.declared.port.Port.{Port}
 use Rattle.vc_plan.specs.declared.port.Wire.{Wire}
@@ -25,17 +26,14 @@ pub record Joins (ws : List Wire) (a b : Port) : Type 0 where
 further : (w : Wire) (ws : List Wire) (a b : Port) → Joins ws a b → Joins (w ∷ ws) a b
 further w ws a b j = record { at = suc j.at; wire = j.wire; from = j.from; is = j.is; near = j.near; far = j.far }
 
-some_is : {A : Type 0} (x y : A) → Some x ≡ Some y → x ≡ y
-some_is x y e = cc
-
 pub across_joins : (ws : List Wire) (a b : Port) → across ws a ≡ Some b → Joins ws a b
 across_joins [] a b e = absurd (cc)
 across_joins (w ∷ ws) a b e = by_test (same_port w.one a) (same_port w.two a) refl refl e (across_joins ws a b)
   where
     by_test : (x y : Bool) → same_port w.one a ≡ x → same_port w.two a ≡ y →
         (if x then Some w.two else (if y then Some w.one else across ws a)) ≡ Some b → (across ws a ≡ Some b → Joins ws a b) → Joins (w ∷ ws) a b
-    by_test true y p q e rest = record { at = 0; wire = w; from = true; is = refl; near = port_is w.one a p; far = some_is w.two b e }
-    by_test false true p q e rest = record { at = 0; wire = w; from = false; is = refl; near = port_is w.two a q; far = some_is w.one b e }
+    by_test true y p q e rest = record { at = 0; wire = w; from = true; is = refl; near = port_is w.one a p; far = same_Some w.two b e }
+    by_test false true p q e rest = record { at = 0; wire = w; from = false; is = refl; near = port_is w.two a q; far = same_Some w.one b e }
     by_test false false p q e rest = further w ws a b (rest e)
 
 -- a port of a wire has a port across from it
@@ -86,7 +84,7 @@ joins_across ws one a b j = settle (has_across ws j.at j.wire j.from j.is)
         let k = across_joins ws a c e' in
         let s = one k.at j.at k.wire j.wire k.from j.from k.is j.is (k.near ∙ sym j.near) in
         let w : Some k.wire ≡ Some j.wire = sym k.is ∙ ap (slice_get ws) s.0 ∙ j.is in
-        let v = some_is k.wire j.wire w in
+        let v = same_Some k.wire j.wire w in
         let t : c ≡ b = sym k.far ∙ ap (λ z. port_of z (not k.from)) v ∙ ap (λ z. port_of j.wire (not z)) s.1 ∙ j.far in
         e' ∙ ap Some t
 

@@ -1,5 +1,6 @@
 -- The channel on a way is the one whose home is that way.
 use Rattle.std.proofs.Common.{◌≡◌, ℕ, zero, suc, ◌+◌, Bool, true, false, ◌&&◌, ◌==◌, List, [], ◌∷◌, slice_get, Some, refl, ap, subst, ◌∙◌, arith, if◌then◌else◌, eq-eqb, eqb-true}
+use Rattle.std.proofs.lemmas.Bool.{and_parts}
 use Rattle.vc_plan.specs.declared.plan.Plan.{Plan}
 use Rattle.vc_plan.specs.declared.channel.Channel.{Channel}
 use Rattle.vc_plan.specs.declared.channel.Home.{Home}
@@ -7,7 +8,6 @@ use Rattle.vc_plan.specs.declared.channel.Home.TheVariants.{Way, Inside}
 use Rattle.vc_plan.specs.Accepted.{IsAccepted}
 use Rattle.vc_plan.specs.Check.{same_bool}
 use Rattle.vc_accepted.specs.NodeEnds.{is_on, first_on, chan_on}
-use Rattle.vc_accepted.proofs.Elements.{both}
 
 bool_is : (a b : Bool) → same_bool a b ≡ true → a ≡ b
 bool_is true true e = refl
@@ -21,7 +21,7 @@ is_bool false = refl
 
 pub on_is : (v : ℕ) (f : Bool) (h : Home) → is_on v f h ≡ true → h ≡ Way v f
 on_is v f (Way u g) e =
-    let r = both (u == v) (same_bool g f) e in
+    let r = and_parts (u == v) (same_bool g f) e in
     let a = eqb-true u v r.0 in
     let b = bool_is g f r.1 in
     λ i. Way (a i) (b i)

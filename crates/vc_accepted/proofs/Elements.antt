@@ -1,5 +1,5 @@
 -- Elements of a list that is made element by element.
-use Rattle.std.proofs.Common.{◌≡◌, ℕ, zero, suc, ◌<◌, Bool, true, false, ◌&&◌, List, [], ◌∷◌, length, map, get_or, slice_get, Option, Some, None, refl, arith, ap, ◌∙◌}
+use Rattle.std.proofs.Common.{◌≡◌, ℕ, zero, suc, ◌<◌, List, [], ◌∷◌, length, map, get_or, slice_get, Option, Some, None, refl, arith, ap, ◌∙◌}
 
 -- an element past the list is d
 abbrev pub made_or : {A B : Type 0} → B → (A → B) → Option A → B
@@ -25,7 +25,3 @@ pub within : {A B : Type 0} (f : A → B) (xs : List A) (i : ℕ) (x : A) → sl
 within f [] i x h = absurd (cc)
 within f (y ∷ ys) zero x h = omega arith
 within f (y ∷ ys) (suc i) x h = let r = within f ys i x h in omega arith
-
-pub both : (a b : Bool) → (a && b) ≡ true → (a ≡ true) × (b ≡ true)
-both true b h = (refl, h)
-both false b h = absurd (cc)

@@ -1,5 +1,6 @@
 -- Where each of a node's ends stands in the plan.
 use Rattle.std.proofs.Common.{◌≡◌, ℕ, zero, suc, ◌+◌, Bool, true, false, ◌==◌, List, [], ◌∷◌, slice_get, Option, Some, refl, sym, ap, subst, ◌∙◌, arith, if◌then◌else◌, eqb-true}
+use Rattle.std.proofs.lemmas.Option.{same_Some}
 use Rattle.vc_plan.specs.declared.vlink.Vlink.{Vlink}
 use Rattle.vc_plan.specs.Accepted.{end_of}
 use Rattle.vc_vcp.specs.declared.end.End.{End as Given}
@@ -18,16 +19,13 @@ pub record IsOf (on : ℕ → Bool → Option ℕ) (n k : ℕ) (vs : List Vlink)
   pub here : (end_of vlink is_a).node ≡ n
   pub is : g ≡ end_given on (k + at) vlink is_a
 
-some_is : {A : Type 0} (x y : A) → Some x ≡ Some y → x ≡ y
-some_is x y e = cc
-
 -- each of a list with an end in front: it is that end, or of the rest
 with_each : (on : ℕ → Bool → Option ℕ) (n v : ℕ) (x : Vlink) (a : Bool) (rest : List Given) (P : Given → Type 0) →
     ((end_of x a).node ≡ n → P (end_given on v x a)) → ((j : ℕ) (g : Given) → slice_get rest j ≡ Some g → P g) → (i : ℕ) (g : Given) → slice_get (with_end on n v x a rest) i ≡ Some g → P g
 with_each on n v x a rest P first more i g e = by_test ((end_of x a).node == n) refl i e
   where
     by_test : (b : Bool) → ((end_of x a).node == n) ≡ b → (i : ℕ) → slice_get (if b then end_given on v x a ∷ rest else rest) i ≡ Some g → P g
-    by_test true t zero e = subst P (some_is (end_given on v x a) g e) (first (eqb-true (end_of x a).node n t))
+    by_test true t zero e = subst P (same_Some (end_given on v x a) g e) (first (eqb-true (end_of x a).node n t))
     by_test true t (suc i) e = more i g e
     by_test false t i e = more i g e
 
@@ -51,8 +49,8 @@ each_of on n k (x ∷ xs) i g e =
 once_cons : (R : Given → Given → Type 0) → ((d e : Given) → R d e → R e d) → (g : Given) (es : List Given) →
     ((j : ℕ) (e : Given) → slice_get es j ≡ Some e → R g e → ⊥) → Once R es → Once R (g ∷ es)
 once_cons R turn g es apart once zero zero d e p q r = refl
-once_cons R turn g es apart once zero (suc j) d e p q r = absurd (apart j e q (subst (λ z. R z e) (sym (some_is g d p)) r))
-once_cons R turn g es apart once (suc i) zero d e p q r = absurd (apart i d p (subst (λ z. R z d) (sym (some_is g e q)) (turn d e r)))
+once_cons R turn g es apart once zero (suc j) d e p q r = absurd (apart j e q (subst (λ z. R z e) (sym (same_Some g d p)) r))
+once_cons R turn g es apart once (suc i) zero d e p q r = absurd (apart i d p (subst (λ z. R z d) (sym (same_Some g e q)) (turn d e r)))
 once_cons R turn g es apart once (suc i) (suc j) d e p q r = ap suc (once i j d e p q r)
 
 -- ends so related are one end of one virtual link

@@ -1,6 +1,9 @@
 -- The ends that a node is given are its ends in the network.
 use Rattle.std.proofs.Common.{length, ◌≡◌, ℕ, zero, suc, ◌+◌, ◌<◌, Bool, true, false, not, ◌&&◌, ◌==◌, List, [], ◌∷◌, slice_get, Option, Some, None, refl, sym, ap, subst, ◌∙◌, arith, if◌then◌else◌, eq-eqb, eqb-true, nat_le}
 use Rattle.std.proofs.lemmas.Bool.Decides.{nat_tests}
+use Rattle.std.proofs.lemmas.Option.{same_Some}
+use Rattle.std.proofs.Math.Bool.{not-not}
+use Rattle.std.proofs.lemmas.Bool.{and_parts}
 use Rattle.std.specs.List.{AllByRecursion, list_all}
 use Rattle.vc_plan.specs.declared.plan.Plan.{Plan}
 use Rattle.vc_plan.specs.declared.vlink.End.{End}
@@ -16,7 +19,7 @@ use Rattle.vc_network.specs.Plan as network
 use Rattle.vc_accepted.specs.NetworkOf.{network_of, link_of, home_of, home_in}
 use Rattle.vc_accepted.specs.NetworkOf as to
 use Rattle.vc_accepted.specs.NodeEnds.{chan_on, end_given, with_end, ends_among, ends_of_node}
-use Rattle.vc_accepted.proofs.Elements.{both, made_at, there}
+use Rattle.vc_accepted.proofs.Elements.{made_at, there}
 use Rattle.vc_accepted.proofs.Limits.{kept}
 use Rattle.vc_accepted.proofs.AcceptedNetwork.{end_is, on_way, on_link}
 use Rattle.vc_accepted.proofs.ChannelOfWay.{chan_has, has_chan}
@@ -28,9 +31,6 @@ chan_is c (Some d) e = let same : d ≡ c = grind (arith, nat_tests) in ap Some 
 
 is_same : (c : ℕ) → is_chan c (Some c) ≡ true
 is_same c = grind (arith, nat_tests)
-
-some_is : {A : Type 0} (x y : A) → Some x ≡ Some y → x ≡ y
-some_is x y e = cc
 
 -- an end with the channel, if there is one: all that have it being alike
 none_with : (chan : Given → Option ℕ) (es : List Given) (c : ℕ) → ((j : ℕ) (g : Given) → slice_get es j ≡ Some g → chan g ≡ Some c → ⊥) → end_with chan es c ≡ None
@@ -50,7 +50,7 @@ some_with chan (e ∷ es) c it alike j g h k = by_test (is_chan c (chan e)) refl
         (if b then Some (end_at e) else end_with chan es c) ≡ Some it
     by_test true t j h rest = ap Some (alike 0 e refl (chan_is c (chan e) t))
     by_test false t zero h rest =
-        let s : is_chan c (chan e) ≡ true = ap (λ z. is_chan c (chan z)) (some_is e g h) ∙ ap (is_chan c) k ∙ is_same c in
+        let s : is_chan c (chan e) ≡ true = ap (λ z. is_chan c (chan z)) (same_Some e g h) ∙ ap (is_chan c) k ∙ is_same c in
         absurd (let x : true ≡ false = sym s ∙ t in cc)
     by_test false t (suc j) h rest = rest j h
 
@@ -70,7 +70,7 @@ placed : (on : ℕ → Bool → Option ℕ) (n k : ℕ) (vs : List Vlink) (i : �
     (j : ℕ) × (slice_get (ends_among on n k vs) j ≡ Some (end_given on (k + i) x a))
 placed on n k [] i x a e h = absurd (cc)
 placed on n k (y ∷ ys) zero x a e h =
-    let is = some_is y x e in
+    let is = same_Some y x e in
     let none : k ≡ k + 0 = omega arith in
     subst (λ z. (j : ℕ) × (slice_get (ends_among on n k (y ∷ ys)) j ≡ Some (end_given on z x a))) none
     (subst (λ z. (j : ℕ) × (slice_get (ends_among on n k (y ∷ ys)) j ≡ Some (end_given on k z a))) is (by_side a (ap (λ (z : Vlink). (end_of z a).node) is ∙ h)))
@@ -142,7 +142,7 @@ by_way p acc n c v chan way is_by one s h = settle (there link_of p.vlinks v (on
         alike d t =
             let w = same_way t.number v (way t.is_a) (way s) (sym t.home_is ∙ h) in
             let side = one t.is_a s w.1 in
-            let is : t.vlink ≡ x = some_is t.vlink x (sym t.there ∙ ap (slice_get p.vlinks) w.0 ∙ e) in
+            let is : t.vlink ≡ x = same_Some t.vlink x (sym t.there ∙ ap (slice_get p.vlinks) w.0 ∙ e) in
             let same : end_of t.vlink t.is_a ≡ end_of x s = ap (λ z. end_of z t.is_a) is ∙ ap (end_of x) side in
             (sym (ap (λ (z : End). z.node) same) ∙ t.here, ap end_at t.is ∙ ap node_end same)
 
@@ -163,10 +163,6 @@ by_way p acc n c v chan way is_by one s h = settle (there link_of p.vlinks v (on
 inside : (p : Plan) (n c m : ℕ) (chan : Given → Option ℕ) (way : Bool → Bool) → IsBy chan way → network.home (network_of p) c ≡ network.Inside m → end_with chan (ends_of_node p n) c ≡ None
 inside p n c m chan way is_by h = none_with chan (ends_of_node p n) c (λ j d f g. let t = told p n c chan way is_by j d f g in not_inside t.number m (way t.is_a) (sym t.home_is ∙ h))
 
-not_not : (a : Bool) → not (not a) ≡ a
-not_not true = refl
-not_not false = refl
-
 output_is : (p : Plan) → IsAccepted p → (n c : ℕ) → end_with (λ e. e.output) (ends_of_node p n) c ≡ (ends (network_of p) n).output c
 output_is p acc n c = by_home (network.home (network_of p) c) refl
   where
@@ -179,7 +175,7 @@ input_is p acc n c = by_home (network.home (network_of p) c) refl
   where
     by_home : (h : network.Home) → network.home (network_of p) c ≡ h → end_with (λ e. e.input) (ends_of_node p n) c ≡ input_end (network_of p) n (network.home (network_of p) c)
     by_home (network.Way v f) h =
-        by_way p acc n c v (λ e. e.input) not (λ on v x a. refl) (λ a b z. sym (not_not a) ∙ ap not z ∙ not_not b) (not f) (h ∙ ap (network.Way v) (sym (not_not f)))
+        by_way p acc n c v (λ e. e.input) not (λ on v x a. refl) (λ a b z. sym (not-not a) ∙ ap not z ∙ not-not b) (not f) (h ∙ ap (network.Way v) (sym (not-not f)))
         ∙ ap (input_end (network_of p) n) (sym h)
     by_home (network.Inside m) h = inside p n c m (λ e. e.input) not (λ on v x a. refl) h ∙ ap (input_end (network_of p) n) (sym h)
 
@@ -212,7 +208,7 @@ given_distinct p acc n = record {
     outputs i j x y a b e f h k (c, r, s) = has_both p c i j a b r s
 
     inputs : Tells (BothHave (λ z. z.input)) (chan_on p) n 0 p.vlinks
-    inputs i j x y a b e f h k (c, r, s) = let w = has_both p c i j (not a) (not b) r s in (w.0, sym (not_not a) ∙ ap not w.1 ∙ not_not b)
+    inputs i j x y a b e f h k (c, r, s) = let w = has_both p c i j (not a) (not b) r s in (w.0, sym (not-not a) ∙ ap not w.1 ∙ not-not b)
 
 -- each sends by one of its node's four links
 abbrev AllSmall : List Given → Type 0
@@ -239,8 +235,8 @@ end_small p acc i x a e = by_side a
   where
     ok : (nat_le x.a.link 3 ≡ true) × (nat_le x.b.link 3 ≡ true)
     ok =
-        let rest = (both (list_all wire_ok p.wires) (list_all ends_ok p.vlinks && list_all switch_links_ok p.switches) (kept p acc).links).1 in
-        both (nat_le x.a.link 3) (nat_le x.b.link 3) (passes ends_ok p.vlinks i x (both (list_all ends_ok p.vlinks) (list_all switch_links_ok p.switches) rest).0 e)
+        let rest = (and_parts (list_all wire_ok p.wires) (list_all ends_ok p.vlinks && list_all switch_links_ok p.switches) (kept p acc).links).1 in
+        and_parts (nat_le x.a.link 3) (nat_le x.b.link 3) (passes ends_ok p.vlinks i x (and_parts (list_all ends_ok p.vlinks) (list_all switch_links_ok p.switches) rest).0 e)
 
     by_side : (a : Bool) → (end_of x a).link < 4
     by_side true = below_four x.a.link ok.0

@@ -1,5 +1,6 @@
 -- Ports in the words of the plan and in those of the network.
 use Rattle.std.proofs.Common.{◌≡◌, ℕ, Bool, true, false, ◌&&◌, ◌==◌, refl, sym, ap, ◌∙◌, eq-eqb, eqb-true}
+use Rattle.std.proofs.lemmas.Bool.{and_parts}
 use Rattle.vc_plan.specs.declared.port.Port.{Port}
 use Rattle.vc_plan.specs.declared.port.Spot.{Spot}
 use Rattle.vc_plan.specs.declared.port.Spot.TheVariants.{Node, Switch}
@@ -10,7 +11,6 @@ use Rattle.vc_machine.specs.Paths.{AtNode, AtSwitch}
 use Rattle.vc_machine.specs.Paths as paths
 use Rattle.vc_network.specs.Plan as network
 use Rattle.vc_accepted.specs.NetworkOf.{port_at, port_of, wire_of}
-use Rattle.vc_accepted.proofs.Elements.{both}
 
 -- the port of the plan at a port of the network
 abbrev pub port_back : paths.Port → Port
@@ -43,7 +43,7 @@ is_spot (Switch n) = eq-eqb n n refl
 
 pub port_is : (p q : Port) → same_port p q ≡ true → p ≡ q
 port_is p q e =
-    let r = both (same_spot p.spot q.spot) (p.link == q.link) e in
+    let r = and_parts (same_spot p.spot q.spot) (p.link == q.link) e in
     let s = spot_is p.spot q.spot r.0 in
     let l = eqb-true p.link q.link r.1 in
     λ i. record { spot = s i; link = l i }

@@ -1,5 +1,6 @@
 -- The processes of an accepted plan begin well: they use their channels and variables lawfully, and keep to kinds.
 use Rattle.std.proofs.Common.{◌≡◌, ℕ, zero, suc, ◌<◌, true, false, ◌&&◌, refl, sym, ◌∙◌, List, [], ◌∷◌, length, get_or, slice_get, Option, Some, None, arith}
+use Rattle.std.proofs.lemmas.Bool.{and_parts}
 use Rattle.std.specs.List.{list_all}
 use Rattle.vc_process.specs.declared.channel_use.ChannelUse.{ChannelUse}
 use Rattle.vc_process.specs.declared.value_kind.ValueKind.{ValueKind}
@@ -18,7 +19,6 @@ use Rattle.vc_plan.specs.Limits.{kinds_of, wire_there, ends_there, home_there, p
 use Rattle.vc_plan.proofs.Limits.{passes}
 use Rattle.vc_plan.proofs.Tests.{uses_are_ok}
 use Rattle.vc_accepted.proofs.Limits.{kept}
-use Rattle.vc_accepted.proofs.Elements.{both}
 use Rattle.vc_accepted.specs.Begin.{node_plan, no_node, begin_of}
 use Rattle.vc_accepted.proofs.StepTraces.{IsGood}
 
@@ -45,7 +45,7 @@ use_kinded p n u h k e = by_channel (slice_get p.channels u.chan) h
   where
     by_channel : (o : Option Channel) → channel_used p n u o ≡ true → k ≡ kind_at o
     by_channel None h = absurd (let z : false ≡ true = h in cc)
-    by_channel (Some c) h = fits u.kind c.kind k (both (has_end p c.home u.is_output n) (kind_fits u.kind c.kind) h).1 e
+    by_channel (Some c) h = fits u.kind c.kind k (and_parts (has_end p c.home u.is_output n) (kind_fits u.kind c.kind) h).1 e
 
 uses_kinded : (p : Plan) (n : ℕ) (us : List ChannelUse) → ((k : ℕ) (u : ChannelUse) → slice_get us k ≡ Some u → use_ok p n u ≡ true) → AreKinded (kind_on p) us
 uses_kinded p n [] h = tt
@@ -53,9 +53,9 @@ uses_kinded p n (u ∷ us) h = (use_kinded p n u (h 0 u refl), uses_kinded p n u
 
 pub named : (p : Plan) → IsAccepted p → (n : ℕ) (node : NodePlan) → slice_get p.nodes n ≡ Some node → names_fit (written node.process) (kinds_of node.vars) (length p.channels) ≡ true
 named p acc n node e =
-    let a = (both (list_all (wire_there p) p.wires) (list_all (ends_there p) p.vlinks && (list_all (λ (x : Channel). home_there p x.home) p.channels && list_all (process_names p) p.nodes)) (kept p acc).number).1 in
-    let b = (both (list_all (ends_there p) p.vlinks) (list_all (λ (x : Channel). home_there p x.home) p.channels && list_all (process_names p) p.nodes) a).1 in
-    passes (process_names p) p.nodes n node (both (list_all (λ (x : Channel). home_there p x.home) p.channels) (list_all (process_names p) p.nodes) b).1 e
+    let a = (and_parts (list_all (wire_there p) p.wires) (list_all (ends_there p) p.vlinks && (list_all (λ (x : Channel). home_there p x.home) p.channels && list_all (process_names p) p.nodes)) (kept p acc).number).1 in
+    let b = (and_parts (list_all (ends_there p) p.vlinks) (list_all (λ (x : Channel). home_there p x.home) p.channels && list_all (process_names p) p.nodes) a).1 in
+    passes (process_names p) p.nodes n node (and_parts (list_all (λ (x : Channel). home_there p x.home) p.channels) (list_all (process_names p) p.nodes) b).1 e
 
 pub begins_good : (p : Plan) → IsAccepted p → (n : ℕ) → n < length p.nodes → IsGood (kind_on p) (kinds_of (node_plan p n).vars) (begin_of p n)
 begins_good p acc n less =

@@ -16,7 +16,7 @@ use Rattle.vc_plan.specs.Wires.{across, switch_at}
 use Rattle.vc_machine.specs.Paths.{AtNode, AtSwitch, Net, End, Carries, Leaves, Delivers}
 use Rattle.vc_machine.specs.Paths as paths
 use Rattle.vc_machine.specs.Dependencies.{CanStand, by_piece, by_ack, by_hop, Depends, HasRanks}
-use Rattle.vc_machine.proofs.TokenCover.{onward}
+use Rattle.vc_machine.proofs.Cover.{onward}
 use Rattle.vc_switch.specs.Forward.{IsDrawn, HasRoom, behind, without_portals}
 use Rattle.vc_switch.specs.Forward as forward
 use Rattle.vc_network.specs.Plan.{Home, Way, Inside, home, near, far, ways, way_from, is_virtual, virtual_link, switch_plan, net_of, net_channel}
@@ -39,7 +39,7 @@ stands_deliver net acc w s (by_hop {w = v} {out = out} {s = r} {t = t} n i x sta
     let d = stands_deliver net acc v r stands in
     let o = onward net d.0 v r d.1 n i x far draw d.2 in
     let next = o.each out t leaves in
-    (next.0, d.1, next.1)
+    (next.0, d.1, next.2)
 
 -- it is a way of the network
 stands_real : (net : Net) → paths.IsAccepted net → (w : ℕ) (s : List ℕ) → CanStand net w s → w < net.ways

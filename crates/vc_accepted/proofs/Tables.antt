@@ -1,5 +1,6 @@
 -- A table of an accepted plan's channels, or of its wires, is filled by writing one after the other: none is written over.
 use Rattle.std.proofs.Common.{◌≡◌, ℕ, zero, suc, ◌+◌, ◌*◌, ◌<◌, Bool, true, false, List, [], ◌∷◌, length, take, slice_get, Option, Some, None, refl, sym, ap, ◌∙◌, arith, if◌then◌else◌}
+use Rattle.std.proofs.lemmas.Option.{same_Some}
 use Rattle.vc_plan.specs.declared.plan.Plan.{Plan}
 use Rattle.vc_plan.specs.declared.port.Wire.{Wire}
 use Rattle.vc_plan.specs.declared.channel.Channel.{Channel}
@@ -10,16 +11,13 @@ use Rattle.vc_accepted.proofs.ChannelOfWay.{on_is}
 use Rattle.vc_accepted.proofs.Ports.{one_port_of}
 use Rattle.vc_accepted.proofs.WayPorts.{link_is_at, wired}
 
-some_is : {A : Type 0} (x y : A) → Some x ≡ Some y → x ≡ y
-some_is x y e = cc
-
 -- a channel more, where none before it is on its way
 next_channel : (v : ℕ) (f : Bool) (cs : List Channel) (c k : ℕ) (x : Channel) → slice_get cs k ≡ Some x →
     (is_on v f x.home ≡ true → (j : ℕ) (y : Channel) → j < k → slice_get cs j ≡ Some y → is_on v f y.home ≡ true → ⊥) →
     first_on c (take (suc k) cs) v f ≡ (if is_on v f x.home then Some (c + k) else first_on c (take k cs) v f)
 next_channel v f [] c k x e alone = absurd (cc)
 next_channel v f (y ∷ ys) c zero x e alone =
-    let is = some_is y x e in
+    let is = same_Some y x e in
     let none : c ≡ c + 0 = omega arith in
     ap (λ (z : Channel). if is_on v f z.home then Some c else None) is ∙ ap (λ z. if is_on v f x.home then Some z else None) none
 next_channel v f (y ∷ ys) c (suc k) x e alone =
@@ -95,7 +93,7 @@ next_wire : (nodes actor link : ℕ) (ws : List Wire) (i k : ℕ) (w : Wire) →
     way_out nodes actor link i (take (suc k) ws) ≡ Written nodes actor link (i + k) w (way_out nodes actor link i (take k ws))
 next_wire nodes actor link [] i k w one e = absurd (cc)
 next_wire nodes actor link (y ∷ ys) i zero w one e =
-    let is = some_is y w e in
+    let is = same_Some y w e in
     let none : i ≡ i + 0 = omega arith in
     ap (λ z. Looked nodes actor link i z None) is ∙ one_wire nodes actor link i w (λ s t. differ (one 0 0 w w true false (ap Some is) (ap Some is) s t).1)
     ∙ ap (λ z. Written nodes actor link z w None) none

@@ -2,6 +2,8 @@
 use Rattle.std.proofs.Common.{◌≡◌, ◌↔◌, ℕ, zero, suc, ◌+◌, ◌-◌, ◌*◌, ◌/◌, ◌%◌, ◌≤◌, Bool, true, false, not, ◌&&◌, ◌==◌, List, [], ◌∷◌, length, map, slice_get, option_map, Option, Some, None, refl, sym, ap, subst, ◌∙◌, arith, if◌then◌else◌, eq-eqb, eqb-true, nat_lt, nat_le}
 use Rattle.std.proofs.lemmas.Bool.Decides.{nat_tests}
 use Rattle.std.proofs.lemmas.List.{length-map}
+use Rattle.std.proofs.lemmas.Option.{same_Some}
+use Rattle.std.proofs.lemmas.Bool.{and_parts}
 use Rattle.std.specs.List.{list_all}
 use Rattle.vc_plan.specs.declared.plan.Plan.{Plan}
 use Rattle.vc_plan.specs.declared.port.Port.{Port}
@@ -20,11 +22,12 @@ use Rattle.vc_network.proofs.Wires.{one_near}
 use Rattle.vc_accepted.specs.NetworkOf.{network_of, wire_of, port_at}
 use Rattle.vc_accepted.specs.NetworkOf as to
 use Rattle.vc_accepted.specs.ActorWays.{actor_of, link_port, is_link, way_out, outgoing, incoming}
-use Rattle.vc_accepted.proofs.Elements.{both, there}
+use Rattle.vc_accepted.proofs.Elements.{there}
 use Rattle.vc_accepted.proofs.Ports.{side_of}
 use Rattle.vc_accepted.proofs.Across.{Joins, wire_is, joined_way, way_of}
 use Rattle.vc_accepted.proofs.Limits.{kept}
 use Rattle.vc_accepted.proofs.AcceptedNetwork.{accepted}
+use Rattle.vc_machine.proofs.Ports.{node_same, switch_same}
 
 -- a port that is there is the actor's link where it is the port at that link
 spot_is_link : (p : Plan) (actor link : ℕ) (s : Spot) (l : ℕ) → spot_there p s ≡ true → actor_of (length p.nodes) s ≡ actor → l ≡ link → port_at s l ≡ link_port p actor link
@@ -38,14 +41,8 @@ spot_is_link p actor link (Switch k) l h a b =
 
 pub link_is_at : (p : Plan) (actor link : ℕ) (port : Port) → spot_there p port.spot ≡ true → is_link (length p.nodes) actor link port ≡ true → to.port_of port ≡ link_port p actor link
 link_is_at p actor link port h e =
-    let r = both (actor_of (length p.nodes) port.spot == actor) (port.link == link) e in
+    let r = and_parts (actor_of (length p.nodes) port.spot == actor) (port.link == link) e in
     spot_is_link p actor link port.spot port.link h (eqb-true (actor_of (length p.nodes) port.spot) actor r.0) (eqb-true port.link link r.1)
-
-at_node : (n m l link : ℕ) → AtNode n l ≡ AtNode m link → (n ≡ m) × (l ≡ link)
-at_node n m l link e = (cc, cc)
-
-at_switch : (n m l link : ℕ) → AtSwitch n l ≡ AtSwitch m link → (n ≡ m) × (l ≡ link)
-at_switch n m l link e = (cc, cc)
 
 tests : (nodes actor link : ℕ) (port : Port) → actor_of nodes port.spot ≡ actor → port.link ≡ link → is_link nodes actor link port ≡ true
 tests nodes actor link port a b = ap (λ z. z && (port.link == link)) (eq-eqb (actor_of nodes port.spot) actor a) ∙ eq-eqb port.link link b
@@ -55,23 +52,23 @@ at_is_link p actor link s l e = by_test (nat_lt actor (length p.nodes)) refl s e
   where
     by_test : (b : Bool) → nat_lt actor (length p.nodes) ≡ b → (s : Spot) → port_at s l ≡ (if b then AtNode actor link else AtSwitch (actor - length p.nodes) link) →
         (actor_of (length p.nodes) s ≡ actor) × (l ≡ link)
-    by_test true t (Node n) e = at_node n actor l link e
+    by_test true t (Node n) e = node_same n actor l link e
     by_test false t (Switch k) e =
-        let r = at_switch k (actor - length p.nodes) l link e in
+        let r = switch_same k (actor - length p.nodes) l link e in
         let past : length p.nodes ≤ actor = grind (arith, nat_tests) in
         ((let a = r.0 in omega arith), r.1)
     by_test true t (Switch k) e = absurd (cc)
     by_test false t (Node n) e = absurd (cc)
 
--- both ends of a wire are there
+-- and_parts ends of a wire are there
 pub wired : (p : Plan) → plan.IsAccepted p → (i : ℕ) (w : Wire) (a : Bool) → slice_get p.wires i ≡ Some w → spot_there p (plan.port_of w a).spot ≡ true
 wired p acc i w a e = by_side a
   where
     ok : (spot_there p w.one.spot ≡ true) × (spot_there p w.two.spot ≡ true)
     ok =
-        both (spot_there p w.one.spot) (spot_there p w.two.spot)
+        and_parts (spot_there p w.one.spot) (spot_there p w.two.spot)
         (passes (wire_there p) p.wires i w
-        (both (list_all (wire_there p) p.wires) (list_all (ends_there p) p.vlinks && (list_all (λ (x : Channel). home_there p x.home) p.channels && list_all (process_names p) p.nodes)) (kept p acc).number).0 e)
+        (and_parts (list_all (wire_there p) p.wires) (list_all (ends_there p) p.vlinks && (list_all (λ (x : Channel). home_there p x.home) p.channels && list_all (process_names p) p.nodes)) (kept p acc).number).0 e)
 
     by_side : (a : Bool) → spot_there p (plan.port_of w a).spot ≡ true
     by_side true = ok.0
@@ -85,9 +82,6 @@ record Found (nodes actor link i : ℕ) (ws : List Wire) (v : ℕ) : Type 0 wher
   is : slice_get ws at ≡ Some wire
   link_is : is_link nodes actor link (plan.port_of wire side) ≡ true
   way_is : v ≡ way_of (i + at) side
-
-some_is : {A : Type 0} (x y : A) → Some x ≡ Some y → x ≡ y
-some_is x y e = cc
 
 later : (nodes actor link i : ℕ) (w : Wire) (ws : List Wire) (v : ℕ) → Found nodes actor link (suc i) ws v → Found nodes actor link i (w ∷ ws) v
 later nodes actor link i w ws v f =
@@ -104,8 +98,8 @@ out_found nodes actor link i (w ∷ ws) v e = by_test (is_link nodes actor link 
     by_test : (a b : Bool) → is_link nodes actor link w.one ≡ a → is_link nodes actor link w.two ≡ b →
         (if a then Some (2 * i) else (if b then Some (2 * i + 1) else way_out nodes actor link (suc i) ws)) ≡ Some v →
         (way_out nodes actor link (suc i) ws ≡ Some v → Found nodes actor link (suc i) ws v) → Found nodes actor link i (w ∷ ws) v
-    by_test true b s t e rest = record { at = 0; wire = w; side = true; is = refl; link_is = s; way_is = sym (some_is (2 * i) v e) ∙ ap (λ z. way_of z true) none }
-    by_test false true s t e rest = record { at = 0; wire = w; side = false; is = refl; link_is = t; way_is = sym (some_is (2 * i + 1) v e) ∙ ap (λ z. way_of z false) none }
+    by_test true b s t e rest = record { at = 0; wire = w; side = true; is = refl; link_is = s; way_is = sym (same_Some (2 * i) v e) ∙ ap (λ z. way_of z true) none }
+    by_test false true s t e rest = record { at = 0; wire = w; side = false; is = refl; link_is = t; way_is = sym (same_Some (2 * i + 1) v e) ∙ ap (λ z. way_of z false) none }
     by_test false false s t e rest = later nodes actor link i w ws v (rest e)
 
 -- where a wire has the link, a way is found
@@ -131,7 +125,7 @@ has_out nodes actor link i (x ∷ xs) k w side e h = by_test (is_link nodes acto
     by_test true b s t k e rest = (2 * i, ap (λ z. if z then Some (2 * i) else (if is_link nodes actor link x.two then Some (2 * i + 1) else way_out nodes actor link (suc i) xs)) s)
     by_test false true s t k e rest =
         (2 * i + 1, (λ j. if s j then Some (2 * i) else (if t j then Some (2 * i + 1) else way_out nodes actor link (suc i) xs)))
-    by_test false false s t zero e rest = absurd (by_side side (some_is x w e) h s t)
+    by_test false false s t zero e rest = absurd (by_side side (same_Some x w e) h s t)
     by_test false false s t (suc k) e rest =
         let r = rest k e in
         (r.0, (λ j. if s j then Some (2 * i) else (if t j then Some (2 * i + 1) else way_out nodes actor link (suc i) xs)) ∙ r.1)
@@ -169,7 +163,7 @@ outgoing_is p acc actor link w = (out_is p acc actor link w, is_out p acc actor 
 
 mapped : (o : Option ℕ) (w : ℕ) → option_map back o ≡ Some w → (v : ℕ) × (o ≡ Some v) × (back v ≡ w)
 mapped None w e = absurd (cc)
-mapped (Some v) w e = (v, refl, some_is (back v) w e)
+mapped (Some v) w e = (v, refl, same_Some (back v) w e)
 
 in_is : (p : Plan) → plan.IsAccepted p → (actor link w : ℕ) → incoming p actor link ≡ Some w → IsInto (network_of p) w (link_port p actor link)
 in_is p acc actor link w e =

@@ -45,6 +45,7 @@ use Rattle.vc_actor.specs.ActorView.{Acting, OfNode, OfSwitch, node_of, view_of,
 use Rattle.vc_actor.specs.declared.inside.Internal.{Internal}
 use Rattle.vc_actor.specs.declared.node.Node.{Node}
 use Rattle.vc_actor.proofs.Insides.{name}
+use Rattle.vc_actor.proofs.SwitchCalls.{not_less}
 
 -- the front channel, where it is inside the node
 abbrev front : Bool → ℕ → List Internal → List Internal
@@ -141,7 +142,7 @@ empty k s [] c = refl
 empty k s (x ∷ xs) c = empty_by (is_inside k x.home) s c (opened_inside k (suc s) xs) (empty k (suc s) xs c)
 
 -- no half is busy
-rests : (a : Carrier) (p : Process) → a ≡ new_vcp.carrier → InStep a p
+pub rests : (a : Carrier) (p : Process) → a ≡ new_vcp.carrier → InStep a p
 rests a p e = record {
   inputs = λ c h. absurd (let q : (a.into c).wants ≡ false = ap (λ (z : Carrier). (z.into c).wants) e in let r : false ≡ true = sym q ∙ h in cc);
   outputs = λ c h. absurd (h (ap (λ (z : Carrier). (z.out c).unacked) e));
@@ -224,10 +225,6 @@ first_more p k xs new a is begins first = record { count = one_longer k xs new a
 pub none_yet : (p : Plan) (xs : List Acting) → xs ≡ [] → AreFirst p 0 xs
 none_yet p [] e = record { count = refl; each = λ k a h. absurd (cc) }
 none_yet p (x ∷ xs) e = absurd (cc)
-
--- a switch that is built is the plan's, and begins
-not_less : (n i : ℕ) → nat_lt (n + i) n ≡ false
-not_less n i = grind (arith, nat_tests)
 
 pub switch_begins : (p : Plan) (i : ℕ) (given : SwitchPlan) (s : SwitchState) → slice_get p.switches i ≡ Some given → IsBuilt given (network.body_limit (network_of p)) s → BeginsAs p (length p.nodes + i) (OfSwitch s)
 switch_begins p i given s there built = record {

@@ -26,7 +26,7 @@ use Rattle.vc_actor.specs.declared.act.Act.{Act}
 use Rattle.vc_actor.specs.declared.act.Act.TheVariants as act
 
 -- the port at a switch's link
-not_less : (n i : ℕ) → nat_lt (n + i) n ≡ false
+pub not_less : (n i : ℕ) → nat_lt (n + i) n ≡ false
 not_less n i = grind (arith, nat_tests)
 
 pub port_is : (plan : Plan) (k i l : ℕ) → k ≡ plan.nodes + i → port plan k l ≡ AtSwitch i l

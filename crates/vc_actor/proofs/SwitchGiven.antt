@@ -1,6 +1,7 @@
 -- A switch of an accepted plan can be built, and is what the plan says of it.
 use Rattle.std.proofs.Common.{◌≡◌, ℕ, ◌<◌, Bool, true, false, ◌&&◌, ◌||◌, ◌==◌, nat_le, List, [], ◌∷◌, slice_get, Some, Result, Ok, Err, IfOk, refl, ap, ◌∙◌, arith, if◌then◌else◌}
 use Rattle.std.proofs.lemmas.Bool.Decides.{nat_tests}
+use Rattle.std.proofs.lemmas.Bool.{and_parts}
 use Rattle.std.specs.List.{list_all, AllByRecursion}
 use mathlib.Core.Path.{fun_ext}
 use Rattle.vc_labels.specs.Fault.{table_fault}
@@ -17,7 +18,6 @@ use Rattle.vc_plan.proofs.Limits.{passes}
 use Rattle.vc_accepted.specs.NetworkOf.{switch_of}
 use Rattle.vc_accepted.specs.NetworkOf as to
 use Rattle.vc_accepted.proofs.Limits.{kept}
-use Rattle.vc_accepted.proofs.Elements.{both}
 use Rattle.vc_switch.specs.Opening.{IsRandomInput, range_given, plan_given}
 use Rattle.vc_switch.specs.Opening as opening
 use Rattle.vc_switch.specs.SwitchView.{seen}
@@ -31,7 +31,7 @@ use Rattle.vc_actor.specs.Private.Begin.{IsBuilt, range_of, ranges_given}
 pub links_small : (ls : List ℕ) → list_all (λ l. nat_le l 31) ls ≡ true → AllByRecursion (λ link. link < 32) ls
 links_small [] h = tt
 links_small (l ∷ ls) h =
-    let t = both (nat_le l 31) (list_all (λ k. nat_le k 31) ls) h in
+    let t = and_parts (nat_le l 31) (list_all (λ k. nat_le k 31) ls) h in
     let few = t.0 in
     (grind (arith, nat_tests), links_small ls t.1)
 
@@ -41,17 +41,17 @@ range_fits r h few = record { link = grind (arith, nat_tests); some = grind (ari
 pub ranges_fit : (rs : List RandomInput) → list_all range_ok rs ≡ true → list_all (λ (r : RandomInput). nat_le r.link 31) rs ≡ true → AllByRecursion IsRandomInput (ranges_given rs)
 ranges_fit [] h few = tt
 ranges_fit (r ∷ rs) h few =
-    let a = both (range_ok r) (list_all range_ok rs) h in
-    let b = both (nat_le r.link 31) (list_all (λ (x : RandomInput). nat_le x.link 31) rs) few in
+    let a = and_parts (range_ok r) (list_all range_ok rs) h in
+    let b = and_parts (nat_le r.link 31) (list_all (λ (x : RandomInput). nat_le x.link 31) rs) few in
     (range_fits r a.0 b.0, ranges_fit rs a.1 b.1)
 
 -- an accepted plan's switch is so
 pub given_links : (p : Plan) → IsAccepted p → (k : ℕ) (s : SwitchPlan) → slice_get p.switches k ≡ Some s → switch_links_ok s ≡ true
 given_links p acc k s e =
-    passes switch_links_ok p.switches k s (both (list_all ends_ok p.vlinks) (list_all switch_links_ok p.switches) (both (list_all wire_ok p.wires) (list_all ends_ok p.vlinks && list_all switch_links_ok p.switches) (kept p acc).links).1).1 e
+    passes switch_links_ok p.switches k s (and_parts (list_all ends_ok p.vlinks) (list_all switch_links_ok p.switches) (and_parts (list_all wire_ok p.wires) (list_all ends_ok p.vlinks && list_all switch_links_ok p.switches) (kept p acc).links).1).1 e
 
 pub given_ranges : (p : Plan) → IsAccepted p → (k : ℕ) (s : SwitchPlan) → slice_get p.switches k ≡ Some s → list_all range_ok s.random ≡ true
-given_ranges p acc k s e = (both (list_all range_ok s.random) (links_differ s.random) (passes random_ok p.switches k s (kept p acc).random e)).0
+given_ranges p acc k s e = (and_parts (list_all range_ok s.random) (links_differ s.random) (passes random_ok p.switches k s (kept p acc).random e)).0
 
 pub given_table : (p : Plan) → IsAccepted p → (k : ℕ) (s : SwitchPlan) → slice_get p.switches k ≡ Some s → table_fault s.rows ≡ None
 given_table p acc k s e = (faultless_are_lawful s.rows).1 (acc.tables k s e).table

@@ -6,10 +6,10 @@ use Rattle.vc_actor.specs.ActorView.{Acting}
 use Rattle.vc_actor.specs.declared.act.Act.{Act}
 use Rattle.vc_core.specs.State.{State, MayActAt}
 use Rattle.vc_core.specs.Private.State.{with_actor}
-use Rattle.vc_core.proofs.Events.{written_back}
+use Rattle.vc_vcp.proofs.ListWrites.{set_back}
 
 pub unchanged : (s : State) (k : ℕ) (a b : Acting) → k < length s.actors → a ≡ get_or s.actors k a → b ≡ a → with_actor s k b ≡ s
-unchanged s k a b less read same = ap (λ xs. record s { actors = xs }) (written_back s.actors k a b (slice_get_read s.actors (length s.actors) k a refl less read) same)
+unchanged s k a b less read same = ap (λ xs. record s { actors = xs }) (set_back s.actors k a b (slice_get_read s.actors (length s.actors) k a refl less read) same)
 
 pub is_there : (s : State) (k i : ℕ) (a : Act) → MayActAt s k a → i ≡ k → i < length s.actors
 is_there s k i a may is = subst (λ z. z < length s.actors) (sym is) (slice_get_within s.actors k may.actor may.here)

@@ -17,10 +17,10 @@ use Rattle.vc_core.specs.Private.ByEnd.{AreApart, ByEnd, Leads, place_of, with_l
 use Rattle.vc_core.specs.Private.Wiring.{AreEnds, AreFar, far_end_of}
 use Rattle.vc_core.specs.Wiring.{AreWaysAt, Comes, in_at, out_at, there}
 use Rattle.vc_core.specs.declared.ends.End.{End}
-use Rattle.vc_core.proofs.Enablement.{has}
-use Rattle.vc_core.proofs.Events.{written_back}
 use Rattle.vc_core.proofs.WaysOut.{in_out, out_within}
 use Rattle.vc_core.proofs.LineBits.{comes_no_more, comes_now, comes_yet, in_few}
+use Rattle.vc_switch.proofs.ListWrites.{some_at}
+use Rattle.vc_vcp.proofs.ListWrites.{set_back}
 
 -- the ways whose ends have other places stay
 others_stay : (ends : List End) (lines : List (List Token)) (p : ℕ) (ts : List Token) → ((v : ℕ) (f : End) → slice_get ends v ≡ Some f → place_of f ≢ p) →
@@ -30,7 +30,7 @@ others_stay (e ∷ es) lines p ts apart =
     let rest = others_stay es lines p ts (λ v f. apart (suc v) f) in
     λ i. get_or-set_other lines p (place_of e) ts [] (apart 0 e refl) i ∷ rest i
 
--- and the way whose end has the place has these tokens
+-- and the way whose end some_at the place some_at these tokens
 pub way_changes : (ends : List End) (lines : List (List Token)) (w : ℕ) (e : End) (ts : List Token) → slice_get ends w ≡ Some e → place_of e < length lines →
     ((v : ℕ) (f : End) → slice_get ends v ≡ Some f → place_of f ≡ place_of e → v ≡ w) → ways_at ends (slice_set lines (place_of e) ts) ≡ slice_set (ways_at ends lines) w ts
 way_changes [] lines w e ts here less one = absurd (cc)
@@ -90,7 +90,7 @@ module _ (ends : List End) (lines : List (List Token)) (apart : AreApart ends (l
 
   pub same_line : slice_get lines (place_of e) ≡ Some line → ts ≡ line
   same_line read =
-      let has : Some ts ≡ Some (get_or lines (place_of e) []) = sym stand ∙ sym (ap (λ (z : ByEnd). slice_get z.ways w) is) ∙ way_has ends lines w e leads_in in
+      let some_at : Some ts ≡ Some (get_or lines (place_of e) []) = sym stand ∙ sym (ap (λ (z : ByEnd). slice_get z.ways w) is) ∙ way_has ends lines w e leads_in in
       let tokens : ts ≡ get_or lines (place_of e) [] = cc in
       tokens ∙ get_or_from_slice_get lines (place_of e) line [] read
 
@@ -100,7 +100,7 @@ module _ (ends : List End) (lines : List (List Token)) (apart : AreApart ends (l
       ∙ ap (λ z. with_line z w more) is
 
   pub unchanged : (more : List Token) → more ≡ line → slice_get lines (place_of e) ≡ Some line → record { ends = ends; ways = ways_at ends (slice_set lines (place_of e) more) } ≡ x
-  unchanged more same read = (λ i. record { ends = ends; ways = ways_at ends (written_back lines (place_of e) line more read same i) }) ∙ is
+  unchanged more same read = (λ i. record { ends = ends; ways = ways_at ends (set_back lines (place_of e) line more read same i) }) ∙ is
 
 pub same_way : (out : List (Option ℕ)) (ends : List End) (e : End) (v w : ℕ) → AreEnds out ends → slice_get ends v ≡ Some e → slice_get ends w ≡ Some e → v ≡ w
 same_way out ends e v w are here there =
@@ -164,7 +164,7 @@ are_far p acc out ends tells are count k l w e =
     let o = (outgoing_is p acc k l w).0 (sym (tells k l) ∙ e) in
     let less = o.0 in
     let many = length-map p.wires wire_of in
-    let end = has ends w (omega (arith, less, many, count)) in
+    let end = some_at ends w (omega (arith, less, many, count)) in
     let far : End = record { actor = 0; link = 0 } in (
       end.0,
       slice_get-map (far_end_of ends) out (k * 32 + l) ∙ ap (option_map (far_end_of ends)) (out_there out k l w e) ∙ ap Some (get_or_from_slice_get ends w end.0 far end.1),

@@ -1,6 +1,7 @@
--- An event has a step of the definitions where its actor has the act and its ways let it, and only there.
-use Rattle.std.proofs.Common.{◌≡◌, ℕ, zero, suc, ◌+◌, ◌-◌, ◌/◌, ◌%◌, ◌<◌, ◌≤◌, Bool, true, false, ◌&&◌, List, [], ◌∷◌, ◌++◌, length, slice_get, Option, Some, None, refl, sym, ap, ◌∙◌, subst, arith, append-nil, if◌then◌else◌, ◌==◌, eq-eqb}
+-- An event some_at a step of the definitions where its actor some_at the act and its ways let it, and only there.
+use Rattle.std.proofs.Common.{◌≡◌, ℕ, ◌+◌, ◌-◌, ◌/◌, ◌%◌, ◌<◌, ◌≤◌, Bool, true, false, ◌&&◌, List, [], ◌∷◌, ◌++◌, length, slice_get, Option, Some, None, refl, sym, ap, ◌∙◌, subst, arith, append-nil, if◌then◌else◌, ◌==◌, eq-eqb}
 use Rattle.std.proofs.lemmas.Bool.Decides.{nat_tests}
+use Rattle.std.proofs.lemmas.Bool.{and_parts}
 use Rattle.std.specs.List.{list_all}
 use Rattle.std.specs.Option.{option_map}
 use Rattle.vc_network.specs.Actors.{Step, Label, act_of as label_act}
@@ -8,7 +9,7 @@ use Rattle.vc_network.specs.Actors.Label.{Own, Takes, Puts}
 use Rattle.vc_accepted.specs.NetworkOf.{network_of, wire_of, port_at}
 use Rattle.vc_accepted.proofs.Across.{wire_is}
 use Rattle.vc_accepted.proofs.Limits.{kept}
-use Rattle.vc_accepted.proofs.Elements.{both, there}
+use Rattle.vc_accepted.proofs.Elements.{there}
 use Rattle.vc_accepted.proofs.Ports.{side_of}
 use Rattle.vc_accepted.proofs.WayPorts.{wired, outgoing_is, incoming_is}
 use Rattle.vc_machine.specs.Paths.{AtNode, AtSwitch}
@@ -30,6 +31,7 @@ use Rattle.vc_switch.specs.SwitchView.{seen as seen_switch}
 use Rattle.vc_switch.specs.Switch.{Switch as Switching, new_switch, Passes, Routes, Sends}
 use Rattle.vc_switch.specs.Waiting.{Wormhole}
 use Rattle.vc_switch.proofs.Steps.{each_comes}
+use Rattle.vc_switch.proofs.ListWrites.{some_at}
 use Rattle.vc_tokens.specs.Tokens.{Token}
 use Rattle.vc_tokens.specs.Tokens as tokens
 use Rattle.vc_packets.specs.Functions.{shown_or}
@@ -129,7 +131,7 @@ enables p s k b (OfSwitch x) is here can ways = switch_enables p s k b x is here
 
 -- The other way round.
 
--- a node has four links, and a switch of the plan 32
+-- a node some_at four links, and a switch of the plan 32
 few_at : (s : Spot) (link k l : ℕ) → port_at s link ≡ AtNode k l → link_ok s link ≡ true → l < 4
 few_at (AtSpot n) link k l at ok = let same : link ≡ l = cc in grind (arith, nat_tests)
 few_at (Switch n) link k l at ok = absurd (cc)
@@ -142,10 +144,10 @@ there_at p (Switch n) link i l at ok real =
     (subst (λ z. z < length p.switches) it (grind (arith, nat_tests)), subst (λ z. z < 32) same (grind (arith, nat_tests)))
 
 port_fits : (p : Plan) → IsAccepted p → (i : ℕ) (w : Wire) (side : Bool) → slice_get p.wires i ≡ Some w → port_ok (port_of w side) ≡ true
-port_fits p acc i w side e = by_side side (both (port_ok w.one) (port_ok w.two) ok)
+port_fits p acc i w side e = by_side side (and_parts (port_ok w.one) (port_ok w.two) ok)
   where
     ok : wire_ok w ≡ true
-    ok = passes wire_ok p.wires i w (both (list_all wire_ok p.wires) (list_all ends_ok p.vlinks && list_all switch_links_ok p.switches) (kept p acc).links).0 e
+    ok = passes wire_ok p.wires i w (and_parts (list_all wire_ok p.wires) (list_all ends_ok p.vlinks && list_all switch_links_ok p.switches) (kept p acc).links).0 e
 
     by_side : (b : Bool) → (port_ok w.one ≡ true) × (port_ok w.two ≡ true) → port_ok (port_of w b) ≡ true
     by_side true h = h.0
@@ -196,21 +198,16 @@ stands_by : (o : Option (List Token)) (t : Token) (rest : List Token) → shown_
 stands_by None t rest e = absurd (cc)
 stands_by (Some ts) t rest e = ap Some e
 
-pub has : {X : Type 0} (xs : List X) (i : ℕ) → i < length xs → (x : X) × (slice_get xs i ≡ Some x)
-has [] i h = absurd (omega arith)
-has (x ∷ xs) zero h = (x, refl)
-has (x ∷ xs) (suc i) h = has xs i (omega arith)
-
 pub has_way : (p : Plan) (s : State) (k l w : ℕ) → IsNetworkOf p s → IsOutOf (network_of p) w (port (network_of p) k l) → HasWay s k l
 has_way p s k l w is o =
-    let t = has s.ways w (subst (λ z. w < z) (sym is.ways) o.0) in
+    let t = some_at s.ways w (subst (λ z. w < z) (sym is.ways) o.0) in
     record { way = w; tokens = t.0; out = is.wiring k l ∙ (outgoing_is p is.accepted k l w).1 o; stand = t.1 }
 
 pub has_front : (p : Plan) (s : State) (k l w : ℕ) (t : Token) (rest : List Token) → IsNetworkOf p s → IsInto (network_of p) w (port (network_of p) k l) → (shown s).way w ≡ t ∷ rest → HasFront s k l
 has_front p s k l w t rest is o front =
     record { way = w; token = t; rest = rest; into = ap (option_map back) (is.wiring k l) ∙ (incoming_is p is.accepted k l w).1 o; stands = stands_by (slice_get s.ways w) t rest front }
 
--- the actor has the act, and its ways let it
+-- the actor some_at the act, and its ways let it
 record Lets (p : Plan) (s : State) (k : ℕ) (b : Act) (a : Acting) : Type 0 where
   can : CanAct (network_of p) k a b
   ways : WaysLet s k b

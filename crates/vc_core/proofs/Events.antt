@@ -1,5 +1,5 @@
 -- What an act of one actor of the code is: an event of the network.
-use Rattle.std.proofs.Common.{◌≡◌, ℕ, zero, suc, ◌<◌, ◌≤◌, Result, Ok, Err, OnErr, List, [], ◌∷◌, ◌++◌, length, slice_get, slice_set, Some, None, refl, sym, ap, ◌∙◌, subst, arith, inl, inr}
+use Rattle.std.proofs.Common.{◌≡◌, ℕ, zero, suc, ◌<◌, ◌≤◌, List, [], ◌∷◌, ◌++◌, length, slice_get, slice_set, Some, None, refl, sym, ap, ◌∙◌, subst, arith, inl, inr}
 use Rattle.std.proofs.lemmas.Bool.{cases_eq}
 use Rattle.std.proofs.lemmas.Option.{slice_get_within}
 use Rattle.std.proofs.lemmas.List.{length-set}
@@ -28,16 +28,6 @@ use Rattle.vc_core.specs.Private.State.{Accepts, GrantsBy, with_actor, with_line
 use Rattle.vc_core.specs.Wiring.{out_at}
 use Rattle.vc_actor.specs.declared.act.Act.TheVariants as act
 use Rattle.vc_core.specs.declared.event.Event.{Event}
-
-pub on_err : {X E A B : Type 0} (r : Result X E) → (A → B) → OnErr r A → OnErr r B
-on_err (Ok x) f h = h
-on_err (Err e) f h = f h
-
--- what was there is written again
-pub written_back : {X : Type 0} (xs : List X) (i : ℕ) (x y : X) → slice_get xs i ≡ Some x → y ≡ x → slice_set xs i y ≡ xs
-written_back [] i x y h e = refl
-written_back (z ∷ zs) zero x y h e = let f : z ≡ x = cc in ap (λ w. w ∷ zs) (e ∙ sym f)
-written_back (z ∷ zs) (suc i) x y h e = ap (λ ws. z ∷ ws) (written_back zs i x y h e)
 
 pub none_past : {X : Type 0} (xs : List X) (k : ℕ) → slice_get xs k ≡ None → length xs ≤ k
 none_past [] k e = omega arith

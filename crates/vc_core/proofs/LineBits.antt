@@ -21,11 +21,11 @@ use Rattle.vc_core.specs.Lines.{AreLined}
 use Rattle.vc_core.specs.Wiring.{out_at, in_at, AreWaysAt, IsWired, Comes, Goes}
 use Rattle.vc_core.specs.State.{State, HasFront}
 use Rattle.vc_core.specs.Turns.{FindsFront}
-use Rattle.vc_core.proofs.Enablement.{has}
 use Rattle.vc_actor.proofs.Masks.{not_both}
 use Rattle.vc_core.proofs.ReplayRuns.{no_token}
 use Rattle.vc_core.proofs.WaysOut.{few_actors, out_within, in_out}
 use Rattle.vc_core.proofs.Turns.{few_at}
+use Rattle.vc_switch.proofs.ListWrites.{some_at}
 
 pub in_few : (wiring : List (Option ℕ)) (k l w : ℕ) → in_at wiring k l ≡ Some w → l < 32
 in_few wiring k l w e = let v = in_out (out_at wiring k l) w e in few_at wiring k l v.0 v.1
@@ -129,7 +129,7 @@ module _ (wiring : List (Option ℕ)) (ways : List (List Token)) (fronts : List 
 -- the bits of room are those of the ways that go out
 pub goes_of : (wiring : List (Option ℕ)) (ways : List (List Token)) (fronts : List ℕ) (k l b : ℕ) → AreLined wiring ways fronts → (b ≡ 1) ↔ IsWired wiring k l → (b ≡ 1) ↔ Goes wiring ways k l
 goes_of wiring ways fronts k l b are told = (
-  (λ t. let w = told.0 t in let x = has ways w.0 (are.real k l w.0 w.1) in record { way = w.0; tokens = x.0; out = w.1; stand = x.1 }),
+  (λ t. let w = told.0 t in let x = some_at ways w.0 (are.real k l w.0 w.1) in record { way = w.0; tokens = x.0; out = w.1; stand = x.1 }),
   (λ g. told.1 (g.way, g.out)),
 )
 
@@ -142,7 +142,7 @@ pub end_first : {X : Type 0} (xs : List X) (x : X) → (y : X) × (ys : List X) 
 end_first [] x = (x, [], refl)
 end_first (z ∷ zs) x = (z, zs ++ x ∷ [], refl)
 
--- the least link that has its bit is the least by which a token comes
+-- the least link that some_at its bit is the least by which a token comes
 pub least_front : (s : State) (k mask : ℕ) (o : Option ℕ) → ((l : ℕ) → l < 32 → (bit_at mask l ≡ 1) ↔ HasFront s k l) →
     MatchOption o ((l : ℕ) → bit_at mask l ≡ 0) (λ link. (link < 32) × IsLowest mask link) → FindsFront s k o
 least_front s k mask None bits none = λ l f. not_both (none l) ((bits l (in_few s.wiring k l f.way f.into)).1 f)

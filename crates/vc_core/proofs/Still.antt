@@ -65,15 +65,16 @@ use Rattle.vc_core.specs.Replay.{Reached}
 use Rattle.vc_core.specs.State.{State, shown, event_of, IsNetworkOf}
 use Rattle.vc_core.specs.Still.{OnlyMoves, NoMove, IsHeld, AllIsHeld, IsUnasked, OnlyProcessesHold}
 use Rattle.vc_core.specs.declared.event.Event.{Event}
-use Rattle.vc_core.proofs.Enablement.{enables, has, has_front, has_way, can_take, real_out, few_out, one_number}
+use Rattle.vc_core.proofs.Enablement.{enables, has_front, has_way, can_take, real_out, few_out, one_number}
 use Rattle.vc_core.proofs.Events.{state_at}
+use Rattle.vc_switch.proofs.ListWrites.{some_at}
 
 -- a node of a wire is one of the plan
 node_at : (p : Plan) (s : Spot) (link n l : ℕ) → port_at s link ≡ AtNode n l → spot_there p s ≡ true → n < length p.nodes
 node_at p (AtSpot m) link n l at real = let same : m ≡ n = cc in subst (λ z. z < length p.nodes) same (grind (arith, nat_tests))
 node_at p (Switch m) link n l at real = absurd (cc)
 
-real_node : (p : Plan) → IsAccepted p → (w n l : ℕ) → IsOutOf (network_of p) w (AtNode n l) → n < length p.nodes
+pub real_node : (p : Plan) → IsAccepted p → (w n l : ℕ) → IsOutOf (network_of p) w (AtNode n l) → n < length p.nodes
 real_node p acc w n l o = settle (there wire_of p.wires (w / 2) (let r = o.0 in omega arith))
   where
     settle : (x : Wire) × (slice_get p.wires (w / 2) ≡ Some x) → n < length p.nodes
@@ -104,7 +105,7 @@ node_there p s w n l is out = by_actor a.0 a.1
     less = real_node p is.accepted w n l out
 
     a : (x : Acting) × (slice_get s.actors n ≡ Some x)
-    a = has s.actors n (let c = is.count in let m = less in omega arith)
+    a = some_at s.actors n (let c = is.count in let m = less in omega arith)
 
     by_actor : (x : Acting) → slice_get s.actors n ≡ Some x → NodeThere p s n l
     by_actor (OfNode x) e = record { node = x; here = e; less = less; few = few_out p is.accepted w n l out; shows = ap vcp_of (state_at s n (OfNode x) e) }
@@ -117,7 +118,7 @@ switch_there p s w k l is out = by_actor a.0 a.1
     real = real_out p is.accepted w k l out
 
     a : (x : Acting) × (slice_get s.actors (length p.nodes + k) ≡ Some x)
-    a = has s.actors (length p.nodes + k) (let c = is.count in let m = real.0 in omega arith)
+    a = some_at s.actors (length p.nodes + k) (let c = is.count in let m = real.0 in omega arith)
 
     by_actor : (x : Acting) → slice_get s.actors (length p.nodes + k) ≡ Some x → SwitchThere p s k l
     by_actor (OfNode x) e = absurd (let less : length p.nodes + k < length p.nodes = (is.actors (length p.nodes + k) (OfNode x) e).0 in omega arith)
@@ -252,7 +253,7 @@ module _ (p : Plan) (s : State) (t : Tokens) (is : IsNetworkOf p s) (g : Good (n
       λ i. ((at_place (Queue w) (q i) ++ at_place (OnWire w) (read (passed_on (net_of N) (far N w) (c.got i) (c.mark i)) (c.buffer i ++ c.wire i))) ++ at_place (Inside w) (of_input (input_of (c.got i) (c.mark i) (c.bound i)))) ++ rest i
 
 -- what halves hold is held
-halves_held : (plan : network.Plan) (s : Network (Actor Process) Token) (n : ℕ) → AllByRecursion (λ (x : Place × Packet). IsHeld x.0) (in_halves plan s n)
+pub halves_held : (plan : network.Plan) (s : Network (Actor Process) Token) (n : ℕ) → AllByRecursion (λ (x : Place × Packet). IsHeld x.0) (in_halves plan s n)
 halves_held plan s zero = tt
 halves_held plan s (suc c) = all_both (λ (x : Place × Packet). IsHeld x.0) (at_place (Held c) (of_held o)) (in_halves plan s c) (one o) (halves_held plan s c)
   where
@@ -273,12 +274,12 @@ held_next plan s c d before (Some q) e (inl (its, one)) = (q, subst (λ z. ((vcp
 held_next plan s c d before (Some q) e (inr (not_its, rest)) = before rest
 
 -- the one packet of a channel that is held is held for it
-held_one : (plan : network.Plan) (s : Network (Actor Process) Token) (c n : ℕ) → Number (BelongsTo (net_of plan) c) (in_halves plan s n) 1 → (q : Packet) × (((vcps s (sink_node plan (home plan c))).carrier.into c).held ≡ Some q)
+pub held_one : (plan : network.Plan) (s : Network (Actor Process) Token) (c n : ℕ) → Number (BelongsTo (net_of plan) c) (in_halves plan s n) 1 → (q : Packet) × (((vcps s (sink_node plan (home plan c))).carrier.into c).held ≡ Some q)
 held_one plan s c zero h = absurd (let e : 1 ≡ 0 = h in omega arith)
 held_one plan s c (suc d) h = held_next plan s c d (held_one plan s c d) ((vcps s (sink_node plan (home plan d))).carrier.into d).held refl h
 
 -- where a piece is held no process inputs
-unasked : (ch : Channel) (f : Phase) (x : ChanState) (n : ℕ) (q : Packet) → PhaseFits ch f x n → x.held ≡ Some q → x.wants ≡ false
+pub unasked : (ch : Channel) (f : Phase) (x : ChanState) (n : ℕ) (q : Packet) → PhaseFits ch f x n → x.held ≡ Some q → x.wants ≡ false
 unasked ch Waiting x n q h e = h.2
 unasked ch y x n q h e = absurd (let k : None ≡ Some q = sym h.1 ∙ e in cc)
 

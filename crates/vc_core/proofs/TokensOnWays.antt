@@ -10,7 +10,7 @@ use Rattle.vc_plan.specs.declared.plan.Plan.{Plan}
 use Rattle.vc_tokens.specs.Tokens.{Token}
 use Rattle.vc_tokens.specs.CodeTokens.{token as spelt, tokens as all_spelt}
 use Rattle.vc_tokens.specs.declared.token.Token.{Token as Made}
-use Rattle.vc_vcp.proofs.ListWrites.{place-set_same}
+use Rattle.vc_vcp.proofs.ListWrites.{place-set_same, set_back}
 use Rattle.vc_core.specs.Channels.{AreChannelsOf}
 use Rattle.vc_core.specs.Lines.{Lined}
 use Rattle.vc_core.specs.Private.Lines.{with_way}
@@ -18,12 +18,11 @@ use Rattle.vc_actor.specs.OfPlan.{IsActorOf}
 use Rattle.vc_actor.specs.ActorView.{Acting}
 use Rattle.vc_core.specs.State.{State, IsNetworkOf}
 use Rattle.vc_core.specs.Wiring.{AreWaysAt}
-use Rattle.vc_core.proofs.Events.{written_back}
 use Rattle.vc_core.proofs.ReplayRuns.{take_more, all_taken}
 
 -- to lay no token changes nothing
 pub none_laid : (x : Lined) (way : ℕ) (ts : List Token) → slice_get x.ways way ≡ Some ts → x ≡ with_way x way (ts ++ [])
-none_laid x way ts stand = λ i. record { ways = sym (written_back x.ways way ts (ts ++ []) stand (append-nil ts)) i; wiring = x.wiring }
+none_laid x way ts stand = λ i. record { ways = sym (set_back x.ways way ts (ts ++ []) stand (append-nil ts)) i; wiring = x.wiring }
 
 -- one token more
 pub one_laid : (old x new : Lined) (way n : ℕ) (ts : List Token) (line : List Made) (t : Made) → slice_get line n ≡ Some t → x ≡ with_way old way (ts ++ all_spelt (take n line))

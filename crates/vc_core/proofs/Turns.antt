@@ -30,9 +30,10 @@ use Rattle.vc_actor.specs.declared.act.ActKind.{ActKind}
 use Rattle.vc_core.specs.declared.event.Event.{Event}
 use Rattle.vc_actor.specs.declared.node.Node.{Node}
 use Rattle.vc_core.proofs.Events.{state_at}
-use Rattle.vc_core.proofs.Enablement.{happens, has_act, has_ways, has_actor, has, can_take}
+use Rattle.vc_core.proofs.Enablement.{happens, has_act, has_ways, has_actor, can_take}
+use Rattle.vc_switch.proofs.ListWrites.{some_at}
 
--- the table of ways has 32 places an actor
+-- the table of ways some_at 32 places an actor
 pub few_at : (out : List (Option ℕ)) (k l w : ℕ) → out_at out k l ≡ Some w → l < 32
 few_at out k l w e = by_test (nat_lt l 32) refl e
   where
@@ -118,7 +119,7 @@ front_of p s k l w is can = by_place (slice_get s.actors k) refl
 pub takes : (p : Plan) (s : State) (k : ℕ) (o : Option ℕ) → IsNetworkOf p s → FindsFront s k o → FindsTake p s k o
 takes p s k None is none = λ l w can. none l (front_of p s k l w is can)
 takes p s k (Some l) is (f, least) = λ less w.
-    let a = has s.actors k (subst (λ z. k < z) (sym is.count) less) in
+    let a = some_at s.actors k (subst (λ z. k < z) (sym is.count) less) in
     happens p s (record { actor = k; act = act.Take l w }) a.0 is a.1 (can_take p s k l w a.0 f is a.1) f
 
 -- where each actor rests, all does
@@ -148,7 +149,7 @@ ended p s is = ((λ all k less. to k less all), (λ have k a here. from k a here
 
     to : (k : ℕ) → k < length p.nodes → ((j : ℕ) (a : Acting) → slice_get s.actors j ≡ Some a → IsDone a) → (n : net.Node Process) × ((shown s).state k ≡ net.IsNode n) × (n.process.state.rest ≡ Done)
     to k less all =
-        let a = has s.actors k (subst (λ z. k < z) (sym is.count) (let more = less in omega arith)) in
+        let a = some_at s.actors k (subst (λ z. k < z) (sym is.count) (let more = less in omega arith)) in
         let n = node_there k a.0 less (is.actors k a.0 a.1) in
         let here : slice_get s.actors k ≡ Some (OfNode n.0) = a.1 ∙ ap Some n.1 in
         (node_of n.0, state_at s k (OfNode n.0) here, all k (OfNode n.0) here)
@@ -160,7 +161,7 @@ ended p s is = ((λ all k less. to k less all), (λ have k a here. from k a here
     from k (OfNode n) here (less, of) have = let m = have k less in rest_of (node_of n) m.0 (sym (state_at s k (OfNode n) here) ∙ m.1) m.2
     from k (OfSwitch x) here of have = tt
 
--- an actor of a network that runs has dropped nothing
+-- an actor of a network that runs some_at dropped nothing
 pub none_stray : (p : Plan) (events : List Event) (s : State) (k : ℕ) (a : Acting) → Replays p events s → slice_get s.actors k ≡ Some a → strays_of a ≡ 0
 none_stray p events s k (OfNode n) r here = ap (λ (z : net.Actor Process). (vcp_of z).carrier.strays) (sym (state_at s k (OfNode n) here)) ∙ r.runs.headline.no_strays k
 none_stray p events s k (OfSwitch x) r here = refl
@@ -199,12 +200,12 @@ module _ (Has : ℕ → Type 0) (room new i : ℕ) (small : i < 32) (before : (j
       least n = omega arith
 
   pub bit_set : new ≡ bit_or room (1 * 2 ^ i % 4294967296) → Has i → Told × Rest
-  bit_set is has = (told, (λ j later. as_before j is (λ same. omega arith) ∙ rest j (omega arith)))
+  bit_set is some_at = (told, (λ j later. as_before j is (λ same. omega arith) ∙ rest j (omega arith)))
     where
       told : Told
       told j less = elim (cases_lt j i) [
         | inl sooner ↦ subst (λ z. (z ≡ 1) ↔ Has j) (sym (as_before j is (λ same. omega arith))) (before j sooner)
-        | inr later ↦ (let same : j ≡ i = omega arith in ((λ t. subst Has (sym same) has), (λ h. with_bit j is same)))
+        | inr later ↦ (let same : j ≡ i = omega arith in ((λ t. subst Has (sym same) some_at), (λ h. with_bit j is same)))
       ]
 
   pub bit_clear : new ≡ room → (Has i → ⊥) → Told × Rest

@@ -3,6 +3,7 @@ use Rattle.std.proofs.Common.{◌≡◌, ℕ, zero, suc, ◌+◌, ◌*◌, ◌<�
 use Rattle.std.proofs.lemmas.Bool.Decides.{nat_tests}
 use Rattle.std.proofs.lemmas.List.{length-set}
 use Rattle.std.proofs.Math.ListN.{replicate}
+use Rattle.std.proofs.lemmas.Bool.{and_parts}
 use Rattle.std.specs.List.{list_all}
 use Rattle.vc_plan.specs.declared.plan.Plan.{Plan}
 use Rattle.vc_plan.specs.declared.port.Port.{Port}
@@ -16,7 +17,6 @@ use Rattle.vc_vcp.proofs.ListWrites.{place-set_same, place-set_other}
 use Rattle.vc_accepted.specs.ActorWays.{actor_of, is_link, way_out}
 use Rattle.vc_accepted.proofs.Tables.{wire_next}
 use Rattle.vc_accepted.proofs.Limits.{kept}
-use Rattle.vc_accepted.proofs.Elements.{both}
 use Rattle.vc_accepted.proofs.WayPorts.{wired}
 use Rattle.vc_core.specs.Private.OutgoingTable.{left}
 use Rattle.vc_core.specs.Wiring.{there, out_at}
@@ -81,7 +81,7 @@ as_long : (out : List (Option ℕ)) (nodes : ℕ) (port : Port) (way : ℕ) → 
 as_long out nodes port way = length-set out (actor_of nodes port.spot * 32 + port.link) (Some way)
 
 -- a port that is there
-spot_few : (p : Plan) (s : Spot) → spot_there p s ≡ true → actor_of (length p.nodes) s < length p.nodes + length p.switches
+pub spot_few : (p : Plan) (s : Spot) → spot_there p s ≡ true → actor_of (length p.nodes) s < length p.nodes + length p.switches
 spot_few p (Node n) h = grind (arith, nat_tests)
 spot_few p (Switch k) h = grind (arith, nat_tests)
 
@@ -89,11 +89,11 @@ link_small : (s : Spot) (link : ℕ) → link_ok s link ≡ true → link < 32
 link_small (Node n) link h = grind (arith, nat_tests)
 link_small (Switch k) link h = grind (arith, nat_tests)
 
-port_small : (p : Plan) → IsAccepted p → (k : ℕ) (w : Wire) (side : Bool) → slice_get p.wires k ≡ Some w → (port_of w side).link < 32
-port_small p acc k w side e = by_side side (both (port_ok w.one) (port_ok w.two) ok)
+pub port_small : (p : Plan) → IsAccepted p → (k : ℕ) (w : Wire) (side : Bool) → slice_get p.wires k ≡ Some w → (port_of w side).link < 32
+port_small p acc k w side e = by_side side (and_parts (port_ok w.one) (port_ok w.two) ok)
   where
     ok : wire_ok w ≡ true
-    ok = passes wire_ok p.wires k w (both (list_all wire_ok p.wires) (list_all ends_ok p.vlinks && list_all switch_links_ok p.switches) (kept p acc).links).0 e
+    ok = passes wire_ok p.wires k w (and_parts (list_all wire_ok p.wires) (list_all ends_ok p.vlinks && list_all switch_links_ok p.switches) (kept p acc).links).0 e
 
     by_side : (b : Bool) → (port_ok w.one ≡ true) × (port_ok w.two ≡ true) → (port_of w b).link < 32
     by_side true h = link_small w.one.spot w.one.link h.0

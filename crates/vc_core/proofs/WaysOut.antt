@@ -31,23 +31,18 @@ use Rattle.vc_core.specs.Wiring.{there, out_at, in_at, AreWaysAt, IsWired}
 use Rattle.vc_core.specs.Private.Wiring.{end_at, ends_of}
 use Rattle.vc_core.specs.declared.ends.End.{End}
 use Rattle.vc_core.proofs.Bits.{elsewhere, there_now}
+use Rattle.vc_machine.proofs.Ports.{node_same, switch_same}
 
 -- the port that a link stands for names its actor and the link
-
-at_node : (n m l link : ℕ) → AtNode n l ≡ AtNode m link → (n ≡ m) × (l ≡ link)
-at_node n m l link e = (cc, cc)
-
-at_switch : (n m l link : ℕ) → AtSwitch n l ≡ AtSwitch m link → (n ≡ m) × (l ≡ link)
-at_switch n m l link e = (cc, cc)
 
 pub number_at : (p : Plan) (actor link : ℕ) (s : Spot) (l : ℕ) → port_at s l ≡ link_port p actor link → (number_of (length p.nodes) s ≡ actor) × (l ≡ link)
 number_at p actor link s l e = by_test (nat_lt actor (length p.nodes)) refl s e
   where
     by_test : (b : Bool) → nat_lt actor (length p.nodes) ≡ b → (s : Spot) → port_at s l ≡ (if b then AtNode actor link else AtSwitch (actor - length p.nodes) link) →
         (number_of (length p.nodes) s ≡ actor) × (l ≡ link)
-    by_test true t (Node n) e = at_node n actor l link e
+    by_test true t (Node n) e = node_same n actor l link e
     by_test false t (Switch k) e =
-        let r = at_switch k (actor - length p.nodes) l link e in
+        let r = switch_same k (actor - length p.nodes) l link e in
         let past : length p.nodes ≤ actor = grind (arith, nat_tests) in
         ((let a = r.0 in omega arith), r.1)
     by_test true t (Switch k) e = absurd (cc)

@@ -29,10 +29,6 @@ alone : {B : Type 0} (x : Option B) → is_some (option_or x None) ≡ is_some x
 alone None = refl
 alone (Some b) = refl
 
-pub or_false : (a : Bool) → (a || false) ≡ a
-or_false true = refl
-or_false false = refl
-
 exchange : (a b c d : Bool) → ((a || b) || (c || d)) ≡ ((a || c) || (b || d))
 exchange true b c d = refl
 exchange false true true d = refl

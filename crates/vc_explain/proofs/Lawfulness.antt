@@ -2,7 +2,8 @@
 use Rattle.std.proofs.Common.{◌≡◌, ℕ, suc, ◌≤◌, ◌==◌, ◌⊎◌, Bool, true, false, ◌&&◌, ◌||◌, if◌then◌else◌, refl, ap, sym, ◌∙◌, List, [], ◌∷◌, ◌++◌, Option, Some, None, inl, inr, arith}
 use Rattle.std.specs.Prelude.{option_map}
 use Rattle.std.specs.Option.{is_some, option_or}
-use Rattle.std.proofs.lemmas.Bool.{false≢true}
+use Rattle.std.proofs.lemmas.Bool.{false≢true, false_from_ne_true}
+use Rattle.std.proofs.Math.Bool.{or-true}
 use Rattle.vc_process.specs.Lawful.{Lawfully, LawfullyAll, LawfullyBranches, LawfullyGuards, Shared, SideBySide, With, inputs, outputs}
 use Rattle.vc_process.specs.Syntax.{Proc, SEQ, PAR, IF, WHILE, COUNT, ALT, Procs, no_parts, part, Branches, no_branches, branch, Guards, no_guards, guard}
 use Rattle.vc_process.specs.Usage.{Set, changes, uses}
@@ -47,20 +48,11 @@ unfolding part_of
 mapped i None x h = absurd (let e : false ≡ true = ap is_some h in false≢true e)
 mapped i (Some path) x h = (refl, ap part_of h)
 
--- what is not so is false
-not_so : (b : Bool) → (b ≡ true → ⊥) → b ≡ false
-not_so true h = absurd (h refl)
-not_so false h = refl
-
 both_true : (a b c d : Bool) → a ≡ true → b ≡ true → ((a && b) || (c && d)) ≡ true
 both_true a b c d h i = ap (λ x. (x && b) || (c && d)) h ∙ ap (λ x. x || (c && d)) i
 
 other_true : (a b c d : Bool) → c ≡ true → d ≡ true → ((a && b) || (c && d)) ≡ true
-other_true a b c d h i = ap (λ x. (a && b) || (x && d)) h ∙ ap (λ x. (a && b) || x) i ∙ last (a && b)
-  where
-    last : (x : Bool) → (x || true) ≡ true
-    last true = refl
-    last false = refl
+other_true a b c d h i = ap (λ x. (a && b) || (x && d)) h ∙ ap (λ x. (a && b) || x) i ∙ or-true (a && b)
 
 unless_false : {B : Type 0} (b : Bool) (x : Option B) → (b ≡ false → is_some x ≡ false) → is_some (if b then None else x) ≡ false
 unless_false true x h = refl
@@ -85,7 +77,7 @@ module _ (one other : Wanted) (f g : Proc → Set) (k : ℕ) (f_place : (p : Pro
   none_beside : (at : List Step) (i j : ℕ) (ps : Procs) → (Has g k ps → ⊥) → is_some (first_beside other j at i ps) ≡ false
   none_beside at i j no_parts none = refl
   none_beside at i j (part p ps) none =
-      neither (if i == j then None else place other [] p (in_par at i)) (first_beside other j at (suc i) ps) (unless_false (i == j) (place other [] p (in_par at i)) (λ e. g_place p (in_par at i) ∙ not_so (g p k) (λ h. none (inl h)))) (none_beside at (suc i) j ps (λ h. none (inr h)))
+      neither (if i == j then None else place other [] p (in_par at i)) (first_beside other j at (suc i) ps) (unless_false (i == j) (place other [] p (in_par at i)) (λ e. g_place p (in_par at i) ∙ false_from_ne_true (g p k) (λ h. none (inl h)))) (none_beside at (suc i) j ps (λ h. none (inr h)))
 
   -- the first place is in a part that has one
   first_has : (at : List Step) (i : ℕ) (ps : Procs) (x : PartPlace) → first_in one at i ps ≡ Some x → Has f k ps × (i ≤ x.part)
@@ -111,7 +103,7 @@ module _ (one other : Wanted) (f g : Proc → Set) (k : ℕ) (f_place : (p : Pro
             )
         | inr e ↦ (
             let r = first_has at (suc i) ps x e.1 in
-            neither (if i == x.part then None else theirs) (first_beside other x.part at (suc i) ps) (unless_false (i == x.part) theirs (λ differ. g_place p (in_par at i) ∙ not_so (g p k) (λ had. none (inl (with_before p ps had r.0)))))
+            neither (if i == x.part then None else theirs) (first_beside other x.part at (suc i) ps) (unless_false (i == x.part) theirs (λ differ. g_place p (in_par at i) ∙ false_from_ne_true (g p k) (λ had. none (inl (with_before p ps had r.0)))))
             (no_clash at (suc i) ps x (λ shared. none (inr shared)) e.1)
             )
       ]

@@ -2,8 +2,9 @@
 use Rattle.std.proofs.Common.{◌≡◌, ℕ, suc, ◌<◌, ◌==◌, ◌⊎◌, Bool, true, false, ◌&&◌, ◌||◌, if◌then◌else◌, refl, ap, ◌∙◌, List, [], ◌∷◌, ◌++◌, Option, Some, None, inl, inr, arith}
 use Rattle.std.specs.Prelude.{option_map}
 use Rattle.std.specs.Option.{is_some, option_or}
-use Rattle.std.proofs.lemmas.Bool.{false≢true}
+use Rattle.std.proofs.lemmas.Bool.{false≢true, or_left, or_right}
 use Rattle.std.proofs.lemmas.Map.Views.{exact_unsigned_eq}
+use Rattle.std.proofs.Math.Bool.{or-true}
 use Rattle.vc_process.specs.Lawful.{FirstOfAll, FirstOfBranches, FirstOfGuards, FirstOffence, Offence, Offends, Shared, With, at_count, at_par, by_input, by_output, by_variable, channel, in_alt, in_count, in_if, in_par, in_seq, in_while, inputs, later_branch, later_guard, later_part, outputs, this_branch, this_guard, this_part, variable}
 use Rattle.vc_process.specs.Syntax.{Proc, Assign, Output, SEQ, PAR, IF, WHILE, COUNT, ALT, Procs, no_parts, part, Branches, no_branches, branch, Guards, no_guards, guard}
 use Rattle.vc_process.specs.Usage.{Set, changes, changes_all, changes_branches, changes_guards, in_exp, in_given, in_test, uses, uses_all, uses_branches, uses_guards}
@@ -24,12 +25,8 @@ use Rattle.vc_explain.proofs.Sets.{change_place, input_place, output_place, use_
 some_left : {B : Type 0} (x y : Option B) → is_some x ≡ true → is_some (option_or x y) ≡ true
 some_left x y h = some_or x y ∙ ap (λ b. b || is_some y) h
 
-or_true : (b : Bool) → (b || true) ≡ true
-or_true true = refl
-or_true false = refl
-
 some_right : {B : Type 0} (x y : Option B) → is_some y ≡ true → is_some (option_or x y) ≡ true
-some_right x y h = some_or x y ∙ ap (λ b. is_some x || b) h ∙ or_true (is_some x)
+some_right x y h = some_or x y ∙ ap (λ b. is_some x || b) h ∙ or-true (is_some x)
 
 some_map : {A B : Type 0} (f : A → B) (x : Option A) → is_some x ≡ true → is_some (option_map f x) ≡ true
 some_map f None h = h
@@ -109,16 +106,9 @@ module _ (one other : Wanted) (f g : Proc → Set) (k : ℕ) (f_place : (p : Pro
 itself : (f : Proc → Set) (k : ℕ) (p : Proc) → f p k ≡ true → f p k ≡ true
 itself f k p h = h
 
--- what a process changes it uses
-or_left : (a b : Bool) → a ≡ true → (a || b) ≡ true
-or_left a b h = ap (λ c. c || b) h
-
 in_one : (a b c : Bool) → (a ≡ true → c ≡ true) → (b ≡ true → c ≡ true) → (a || b) ≡ true → c ≡ true
 in_one true b c f g h = f refl
 in_one false b c f g h = g h
-
-or_right : (a b : Bool) → b ≡ true → (a || b) ≡ true
-or_right a b h = ap (λ c. a || c) h ∙ or_true a
 
 module _ (k : ℕ) where
   mutual
@@ -191,7 +181,7 @@ module _ (n : Named) where
         some_append (own_offence n) (within p inner) (within_parts l at (suc k) ps) ∙ ap (λ b. b || is_some (first_of (own_offence n) (within_parts l at (suc k) ps))) (found p x inner h names)
     found_parts l at k (part p ps) x (later_part lawful h) names =
         let inner = at ++ Field l ∷ Index k ∷ [] in
-        some_append (own_offence n) (within p inner) (within_parts l at (suc k) ps) ∙ ap (λ b. is_some (offence n p inner) || b) (found_parts l at (suc k) ps x h names) ∙ or_true (is_some (offence n p inner))
+        some_append (own_offence n) (within p inner) (within_parts l at (suc k) ps) ∙ ap (λ b. is_some (offence n p inner) || b) (found_parts l at (suc k) ps x h names) ∙ or-true (is_some (offence n p inner))
 
     found_branches : (at : List Step) (k : ℕ) (bs : Branches) (x : Offence) → FirstOfBranches bs x → Names n x → is_some (first_of (own_offence n) (within_branches at k bs)) ≡ true
     found_branches at k no_branches x h names = elim h [ ]
@@ -200,7 +190,7 @@ module _ (n : Named) where
         some_append (own_offence n) (within p inner) (within_branches at (suc k) bs) ∙ ap (λ b. b || is_some (first_of (own_offence n) (within_branches at (suc k) bs))) (found p x inner h names)
     found_branches at k (branch t p bs) x (later_branch lawful h) names =
         let inner = at ++ Field word.If ∷ Index k ∷ Index 1 ∷ [] in
-        some_append (own_offence n) (within p inner) (within_branches at (suc k) bs) ∙ ap (λ b. is_some (offence n p inner) || b) (found_branches at (suc k) bs x h names) ∙ or_true (is_some (offence n p inner))
+        some_append (own_offence n) (within p inner) (within_branches at (suc k) bs) ∙ ap (λ b. is_some (offence n p inner) || b) (found_branches at (suc k) bs x h names) ∙ or-true (is_some (offence n p inner))
 
     found_guards : (at : List Step) (k : ℕ) (gs : Guards) (x : Offence) → FirstOfGuards gs x → Names n x → is_some (first_of (own_offence n) (within_guards at k gs)) ≡ true
     found_guards at k no_guards x h names = elim h [ ]
@@ -209,7 +199,7 @@ module _ (n : Named) where
         some_append (own_offence n) (within p inner) (within_guards at (suc k) gs) ∙ ap (λ b. b || is_some (first_of (own_offence n) (within_guards at (suc k) gs))) (found p x inner h names)
     found_guards at k (guard t c v p gs) x (later_guard lawful h) names =
         let inner = at ++ Field word.Alt ∷ Index k ∷ Index 3 ∷ [] in
-        some_append (own_offence n) (within p inner) (within_guards at (suc k) gs) ∙ ap (λ b. is_some (offence n p inner) || b) (found_guards at (suc k) gs x h names) ∙ or_true (is_some (offence n p inner))
+        some_append (own_offence n) (within p inner) (within_guards at (suc k) gs) ∙ ap (λ b. is_some (offence n p inner) || b) (found_guards at (suc k) gs x h names) ∙ or-true (is_some (offence n p inner))
 
 pub are_found : OffencesAreFound
 are_found p x n at h names = found n p x at h names

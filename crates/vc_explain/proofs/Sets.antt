@@ -1,5 +1,6 @@
 -- A place of an output on a channel, of an input on it, of a change of a variable and of a use of it.
 use Rattle.std.proofs.Common.{◌≡◌, ℕ, ◌==◌, Bool, true, false, ◌||◌, refl, ap, sym, [], List}
+use Rattle.std.proofs.Math.Bool.{or-false}
 use Rattle.std.specs.Option.{is_some}
 use Rattle.vc_process.specs.Lawful.{inputs, inputs_all, inputs_branches, inputs_guards, outputs, outputs_all, outputs_branches, outputs_guards}
 use Rattle.vc_process.specs.Syntax.{Proc}
@@ -7,14 +8,14 @@ use Rattle.vc_process.specs.Usage.{changes, changes_all, changes_branches, chang
 use Rattle.vc_reader.specs.declared.path.Step.{Step}
 use Rattle.vc_explain.specs.declared.wanted.Wanted.TheVariants as wanted
 use Rattle.vc_explain.specs.Uses.{place}
-use Rattle.vc_explain.proofs.Coverage.{Covers, covered, or_false}
+use Rattle.vc_explain.proofs.Coverage.{Covers, covered}
 
 -- one thing or another
 either : (a b : Bool) → (a || b) ≡ (a || (b || false))
-either a b = ap (λ c. a || c) (sym (or_false b))
+either a b = ap (λ c. a || c) (sym (or-false b))
 
 any_of : (a b c : Bool) → (a || (b || c)) ≡ (a || (b || (c || false)))
-any_of a b c = ap (λ d. a || (b || d)) (sym (or_false c))
+any_of a b c = ap (λ d. a || (b || d)) (sym (or-false c))
 
 swapped : (v t p r : Bool) → (((v || t) || p) || r) ≡ (((t || (false || (v || false))) || p) || r)
 swapped true true p r = refl
@@ -23,7 +24,7 @@ swapped false true p r = refl
 swapped false false p r = refl
 
 first_false : (a : Bool) → a ≡ (a || false)
-first_false a = sym (or_false a)
+first_false a = sym (or-false a)
 
 pub outputs_cover : (c : ℕ) → Covers (wanted.Output c) [] (λ p. outputs p c) (λ ps. outputs_all ps c) (λ bs. outputs_branches bs c) (λ gs. outputs_guards gs c)
 outputs_cover c = record {

@@ -1,7 +1,8 @@
 -- Whatever the processes may do together, a free network does: atomic by atomic, each with the deliveries that it needs.
 use Rattle.std.proofs.Common.{◌≡◌, ◌≢◌, ℕ, zero, suc, ◌+◌, ◌<◌, ◌≤◌, Bool, true, false, not, ◌&&◌, ◌||◌, List, [], ◌∷◌, ◌++◌, length, map, get_or, nat_eq, slice_get, Option, Some, None, inl, inr, refl, sym, ap, ap₂, subst, ◌∙◌, arith, length-append, ◌==◌, if◌then◌else◌, eq-eqb, ne_eqb, eqb-true}
-use Rattle.std.proofs.lemmas.Bool.{cases_eq, cases_lt}
+use Rattle.std.proofs.lemmas.Bool.{cases_eq, cases_lt, or_right}
 use Rattle.std.proofs.lemmas.List.{length-map}
+use Rattle.std.proofs.lemmas.Option.{slice_get-get_or}
 use Rattle.std.specs.List.{Contains}
 use Rattle.vc_accepted.proofs.AcceptedNetwork.{end_is, on_link}
 use Rattle.vc_accepted.proofs.Elements.{made_at, within}
@@ -38,6 +39,7 @@ use Rattle.vc_occam.specs.States.{StepsTo}
 use Rattle.vc_occam.specs.Traces.{Comm, Out, Fin, In, Stp, End, Trace}
 use Rattle.vc_packets.specs.Functions.{put}
 use Rattle.vc_placement.proofs.Ends.{HasUse, output_use, input_use}
+use Rattle.vc_placement.proofs.OneNodeRuns.{exchange_shown, stop_shown}
 use Rattle.vc_placement.specs.Linearization.{Atomic, Exchange, Stop, all_comms, AreFaithful}
 use Rattle.vc_plan.specs.Accepted.{IsAccepted, IsAtEnd}
 use Rattle.vc_plan.specs.Accepted as plan
@@ -46,7 +48,6 @@ use Rattle.vc_plan.specs.Limits.{kinds_of}
 use Rattle.vc_plan.specs.declared.channel.Channel.{Channel}
 use Rattle.vc_plan.specs.declared.channel.Home.{Home}
 use Rattle.vc_plan.specs.declared.channel.Home.TheVariants as home_plan
-use Rattle.vc_plan.specs.declared.node_plan.NodePlan.{NodePlan}
 use Rattle.vc_plan.specs.declared.plan.Plan.{Plan}
 use Rattle.vc_plan.specs.declared.vlink.Vlink.{Vlink}
 use Rattle.vc_process.specs.Lawful.{inputs, outputs}
@@ -102,11 +103,7 @@ there_inside n (x ∷ xs) k zero o less h =
 there_inside n (x ∷ xs) k (suc i) o less h =
     let e : suc k + i ≡ k + suc i = omega arith in
     let r = subst (λ z. among (numbers_inside n (suc k) xs) z ≡ true) e (there_inside n xs (suc k) i o (omega arith) h) in
-    one_more (is_inside n x.home) k (k + suc i) (numbers_inside n (suc k) xs) ∙ or_true (is_inside n x.home && nat_eq k (k + suc i)) (among (numbers_inside n (suc k) xs) (k + suc i)) r
-  where
-    or_true : (a b : Bool) → b ≡ true → (a || b) ≡ true
-    or_true true b e = refl
-    or_true false b e = e
+    one_more (is_inside n x.home) k (k + suc i) (numbers_inside n (suc k) xs) ∙ or_right (is_inside n x.home && nat_eq k (k + suc i)) (among (numbers_inside n (suc k) xs) (k + suc i)) r
 
 -- ---- nodes' parts of a list
 
@@ -114,21 +111,6 @@ abbrev Three : Bool → Bool → Comm → Comm → Comm → List Comm → List C
 Three a b x y z l = if a then x ∷ (if b then y ∷ (if a then z ∷ l else l) else (if a then z ∷ l else l)) else (if b then y ∷ (if a then z ∷ l else l) else (if a then z ∷ l else l))
 
 -- ---- what a channel shows
-
-abbrev If : Bool → rendezvous.Comm → List rendezvous.Comm → List rendezvous.Comm
-If b k l = if b then k ∷ l else l
-
-exchange_shown : (b : Bool) (v u : View) (m n : List ℕ) (l : List rendezvous.Comm) → m ≡ n → DoesAll v (If b (rendezvous.Out m) (If b (rendezvous.In n) (If b rendezvous.Fin l))) u → DoesAll (if b then exchanged v m else v) l u × (b ≡ true → v.stopped ≡ false)
-exchange_shown false v u m n l e h = (h, λ q. absurd (cc))
-exchange_shown true v u m n l e (x, (a, is), (y, (got, going, is2), (z, (less, is3), rest))) =
-    let same : z ≡ exchanged v m =
-    is3 ∙ ap (λ (w : View). record w { finished = suc w.finished }) (is2 ∙ ap (λ (w : View). record w { taken = w.taken ++ n ∷ [] }) is)
-    ∙ ap (λ (k : List ℕ). record v { offered = v.offered ++ m ∷ []; taken = v.taken ++ k ∷ []; finished = suc v.finished }) (sym e) in
-    (subst (λ (w : View). DoesAll w l u) same rest, λ q. sym (ap (λ (w : View). w.stopped) is) ∙ going)
-
-stop_shown : (b : Bool) (v u : View) (l : List rendezvous.Comm) → DoesAll v (If b rendezvous.Stp l) u → DoesAll (if b then stopped_view v else v) l u
-stop_shown false v u l h = h
-stop_shown true v u l (w, is, rest) = subst (λ (z : View). DoesAll z l u) is rest
 
 -- the view of a channel after one is changed
 after_put : (f : ℕ → View) (d c : ℕ) (x : View) (P : View → Type 0) → (d ≡ c → P x) → ((d ≡ c → ⊥) → P (f c)) → P (put f d x c)
@@ -192,12 +174,7 @@ module _ (p : Plan) (waiting : Waiting) (acc : IsAccepted p) (ranks : HasRanks p
     at_end : IsAtEnd p channel.home is_output n
 
   plan_there : (n : ℕ) → n < length p.nodes → slice_get p.nodes n ≡ Some (node_plan p n)
-  plan_there n few = at p.nodes n few
-    where
-      at : (ns : List NodePlan) (m : ℕ) → m < length ns → slice_get ns m ≡ Some (get_or ns m no_node)
-      at [] m h = absurd (omega arith)
-      at (x ∷ xs) zero h = refl
-      at (x ∷ xs) (suc m) h = at xs m (omega arith)
+  plan_there n few = slice_get-get_or p.nodes n no_node few
 
   use_of : (n c : ℕ) (o : Bool) → n < length p.nodes → HasUse o c (plan.uses_of (node_plan p n)) → Use n c o
   use_of n c o few (k, u, there, chan, is) =

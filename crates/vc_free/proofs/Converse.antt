@@ -1,22 +1,23 @@
 -- What the one node does the plan's free network does: the one node's trace is split into traces of its parts, which have a
 -- linearization, and that the network does.
-use Rattle.std.proofs.Common.{◌≡◌, ℕ, zero, suc, ◌+◌, ◌≤◌, ◌<◌, Bool, true, false, refl, sym, ap, subst, ◌∙◌, List, [], ◌∷◌, length, map, get_or, slice_get, Some, inl, inr, arith, ◌==◌, nat_eq, eq-eqb, if◌then◌else◌}
+use Rattle.std.proofs.Common.{◌≡◌, ℕ, zero, suc, ◌+◌, ◌≤◌, ◌<◌, Bool, true, false, refl, sym, ap, subst, ◌∙◌, List, [], ◌∷◌, length, map, get_or, inl, inr, arith, ◌==◌, eq-eqb, if◌then◌else◌}
 use Rattle.std.proofs.lemmas.Bool.{cases_lt}
+use Rattle.std.proofs.lemmas.Option.{slice_get-get_or}
 use Rattle.vc_accepted.proofs.Main.{all_told}
 use Rattle.vc_accepted.proofs.Processes.{named}
 use Rattle.vc_accepted.specs.Begin.{node_plan, no_node, begin_of}
 use Rattle.vc_accepted.specs.NetworkOf.{network_of, home_in}
-use Rattle.vc_accepted.specs.OneList.{by, on, to_channel, IsTold}
+use Rattle.vc_accepted.specs.OneList.{by, on, IsTold}
 use Rattle.vc_accepted.specs.Process.{Process}
 use Rattle.vc_free.proofs.Atomics.{do_all}
 use Rattle.vc_free.proofs.Places.{arrived}
-use Rattle.vc_free.proofs.PartTraces.{empty, Split, split}
+use Rattle.vc_free.proofs.PartTraces.{Split, split}
 use Rattle.vc_free.specs.Converse.{NetworkRunsIt}
 use Rattle.vc_machine.specs.Rendezvous as rendezvous
-use Rattle.vc_machine.specs.Rendezvous.{View, DoesAll, part as part_on, nothing_yet}
+use Rattle.vc_machine.specs.Rendezvous.{View, DoesAll, nothing_yet}
 use Rattle.vc_network.proofs.Steps.{InnerFits}
 use Rattle.vc_network.specs.Actors.{Network}
-use Rattle.vc_network.specs.Network.{Node, Actor, IsNode}
+use Rattle.vc_network.specs.Network.{Node, Actor}
 use Rattle.vc_network.specs.Plan as network
 use Rattle.vc_network.specs.Plan.{home}
 use Rattle.vc_network.specs.Views.{view, view_at}
@@ -26,6 +27,8 @@ use Rattle.vc_occam.specs.Remains.{Done}
 use Rattle.vc_occam.specs.States.{State}
 use Rattle.vc_occam.specs.Traces.{Comm, End, Open, Ended, Trace, cut, par}
 use Rattle.vc_placement.proofs.Linearizability.{linearizes}
+use Rattle.vc_placement.proofs.OneNode.{empty, same_node}
+use Rattle.vc_placement.proofs.OneNodeRuns.{of_channel, without_is}
 use Rattle.vc_placement.specs.Linearization.{completed}
 use Rattle.vc_placement.specs.OneNode.{HaveEnded}
 use Rattle.vc_placement.specs.Parallel.{without_nodes, IsEnded}
@@ -40,15 +43,6 @@ use Rattle.vc_process.specs.Syntax.{PAR}
 use Rattle.vc_process.specs.Values.{Store}
 use Rattle.vc_switch.specs.Waiting.{Waiting}
 use Rattle.vc_tokens.specs.Tokens.{Token}
-
--- what is on a channel, whoever made it
-of_channel : ℕ → List Comm → List rendezvous.Comm
-of_channel c ks = part_on c (map to_channel ks)
-
-without_is : (c : ℕ) (ks : List (ℕ × Comm)) → of_channel c (without_nodes ks) ≡ on c ks
-unfolding of_channel
-without_is c [] = refl
-without_is c ((n, k) ∷ ks) = ap (λ r. if nat_eq (to_channel k).0 c then (to_channel k).1 ∷ r else r) (without_is c ks)
 
 -- where only node 0 has a part, that is all
 all_of_first : (ks : List (ℕ × Comm)) → ((n : ℕ) → 1 ≤ n → by n ks ≡ []) → by 0 ks ≡ without_nodes ks
@@ -66,20 +60,12 @@ home_inside [] c n = (n, refl)
 home_inside (x ∷ cs) zero n = (0, refl)
 home_inside (x ∷ cs) (suc c) n = home_inside cs c n
 
-get_there : (ns : List NodePlan) (m : ℕ) → m < length ns → slice_get ns m ≡ Some (get_or ns m no_node)
-get_there [] m h = absurd (omega arith)
-get_there (x ∷ xs) zero h = refl
-get_there (x ∷ xs) (suc m) h = get_there xs m (omega arith)
-
 inner_completed : (v : View) → InnerFits v → completed v ≡ v
 inner_completed v f = λ i. record { offered = f.taken i; taken = v.taken; finished = (ap length f.taken ∙ sym f.finished) i; stopped = v.stopped }
 
 pub ended_done : (s : State) (x : End) → IsEnded x → EndsAs s x → s.rest ≡ Done
 ended_done s (Ended f) i e = e.0
 ended_done s Open i e = absurd (let z : Open ≡ Ended i.0 = i.1 in cc)
-
-same_node : (a b : Node Process) → IsNode a ≡ IsNode b → a ≡ b
-same_node a b e = cc
 
 module _ (p one : Plan) (waiting : Waiting) (t : Network (Actor Process) Token) (acc : IsAccepted p) (is : IsOneNodeOf p one) (told : List (ℕ × Comm)) (tells : IsTold one t told) where
   one_there : 0 < length one.nodes
@@ -123,7 +109,7 @@ module _ (p one : Plan) (waiting : Waiting) (t : Network (Actor Process) Token) 
   its_trace n = elim (cases_lt n (length p.nodes)) [
     | inl less ↦ (let z : 0 + n ≡ n = omega arith in (
       its_parts.ends n,
-      subst (λ j. Trace (written (node_plan p n).process) (begin_of p n).state.store (by j its_parts.told) (its_parts.ends j)) z (its_parts.traces n (node_plan p n) (get_there p.nodes n less)),
+      subst (λ j. Trace (written (node_plan p n).process) (begin_of p n).state.store (by j its_parts.told) (its_parts.ends j)) z (its_parts.traces n (node_plan p n) (slice_get-get_or p.nodes n no_node less)),
       λ l e. subst (λ j. IsEnded (its_parts.ends j)) z (its_parts.ended e n less),
     ))
     | inr past ↦ (Open, subst (λ l. Trace (written (node_plan p n).process) (begin_of p n).state.store l Open) (sym (its_parts.high n (let z : 0 + length p.nodes ≤ n = omega arith in z))) cut, λ l e. absurd (omega arith))

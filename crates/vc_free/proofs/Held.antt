@@ -1,20 +1,18 @@
 -- Where nothing can happen but moves of processes, every packet is held at its receiver, where no process inputs.
-use Rattle.std.proofs.Common.{◌≡◌, ℕ, zero, suc, ◌<◌, ◌≤◌, Bool, true, false, inl, inr, List, [], ◌∷◌, ◌++◌, length, Option, Some, None, refl, sym, ap, subst, ◌∙◌, arith, le_refl, append-nil, length-append}
+use Rattle.std.proofs.Common.{◌≡◌, ℕ, zero, suc, ◌<◌, ◌≤◌, Bool, true, false, inl, inr, List, [], ◌∷◌, ◌++◌, length, refl, sym, ap, subst, ◌∙◌, arith, le_refl, append-nil, length-append}
 use Rattle.std.proofs.lemmas.Bool.{cases_lt}
 use Rattle.std.proofs.lemmas.List.Elements.{All-from_recursion, All-contains}
-use Rattle.std.specs.List.{AllByRecursion, Contains}
+use Rattle.std.specs.List.{Contains}
 use Rattle.vc_accepted.proofs.AcceptedNetwork.{accepted}
 use Rattle.vc_accepted.specs.NetworkOf.{network_of}
 use Rattle.vc_accepted.specs.Process.{Process}
 use Rattle.vc_core.specs.Still.{IsHeld, IsUnasked}
 use Rattle.vc_free.specs.Delivery.{in_half, IsThrough}
-use Rattle.vc_machine.proofs.Labels.{Phase, Waiting, PhaseFits}
-use Rattle.vc_machine.proofs.Ownership.{all_both}
 use Rattle.vc_machine.specs.Links.{Tokens}
 use Rattle.vc_machine.specs.Machine.{ChanState}
-use Rattle.vc_machine.specs.Paths.{Port, AtNode, AtSwitch, Channel}
+use Rattle.vc_machine.specs.Paths.{Port, AtNode, AtSwitch}
 use Rattle.vc_machine.specs.Places as places
-use Rattle.vc_machine.specs.Places.{Place, Queue, OnWire, Inside, Held, BelongsTo, Number, at_place, of_held, of_input}
+use Rattle.vc_machine.specs.Places.{Place, Queue, OnWire, Inside, BelongsTo, Number, at_place, of_input}
 use Rattle.vc_machine.specs.PacketsOfTokens.{read, passed_on, input_of, seen}
 use Rattle.vc_machine.specs.Still.{IsClear}
 use Rattle.vc_network.proofs.Main.{same_ways, packets, faithful}
@@ -25,42 +23,12 @@ use Rattle.vc_network.specs.Actors.{Network}
 use Rattle.vc_network.specs.Network.{Actor}
 use Rattle.vc_network.specs.Plan as network
 use Rattle.vc_network.specs.Plan.{Way, home, near, far, ways, net_of}
-use Rattle.vc_network.specs.Views.{vcps, sink_node, view, queue_at, in_halves, everywhere}
+use Rattle.vc_network.specs.Views.{vcps, view, queue_at, in_halves, everywhere}
 use Rattle.vc_packets.specs.declared.packet.Packet.{Packet}
 use Rattle.vc_plan.specs.Accepted.{IsAccepted}
 use Rattle.vc_plan.specs.declared.plan.Plan.{Plan}
 use Rattle.vc_tokens.specs.Tokens.{Token}
-
--- what halves hold is held
-halves_held : (plan : network.Plan) (s : Network (Actor Process) Token) (n : ℕ) → AllByRecursion (λ (x : Place × Packet). IsHeld x.0) (in_halves plan s n)
-halves_held plan s zero = tt
-halves_held plan s (suc c) = all_both (λ (x : Place × Packet). IsHeld x.0) (at_place (Held c) (of_held o)) (in_halves plan s c) (one o) (halves_held plan s c)
-  where
-    o : Option Packet
-    o = ((vcps s (sink_node plan (home plan c))).carrier.into c).held
-
-    one : (o : Option Packet) → AllByRecursion (λ (x : Place × Packet). IsHeld x.0) (at_place (Held c) (of_held o))
-    one None = tt
-    one (Some q) = (tt, tt)
-
--- of one half more, which holds this, or of those before it
-held_next : (plan : network.Plan) (s : Network (Actor Process) Token) (c d : ℕ) →
-    (Number (BelongsTo (net_of plan) c) (in_halves plan s d) 1 → (q : Packet) × (((vcps s (sink_node plan (home plan c))).carrier.into c).held ≡ Some q)) →
-    (o : Option Packet) → ((vcps s (sink_node plan (home plan d))).carrier.into d).held ≡ o →
-    Number (BelongsTo (net_of plan) c) (at_place (Held d) (of_held o) ++ in_halves plan s d) 1 → (q : Packet) × (((vcps s (sink_node plan (home plan c))).carrier.into c).held ≡ Some q)
-held_next plan s c d before None e h = before h
-held_next plan s c d before (Some q) e (inl (its, one)) = (q, subst (λ z. ((vcps s (sink_node plan (home plan z))).carrier.into z).held ≡ Some q) (sym its) e)
-held_next plan s c d before (Some q) e (inr (not_its, rest)) = before rest
-
--- the one packet of a channel that is held is held for it
-held_one : (plan : network.Plan) (s : Network (Actor Process) Token) (c n : ℕ) → Number (BelongsTo (net_of plan) c) (in_halves plan s n) 1 → (q : Packet) × (((vcps s (sink_node plan (home plan c))).carrier.into c).held ≡ Some q)
-held_one plan s c zero h = absurd (let e : 1 ≡ 0 = h in omega arith)
-held_one plan s c (suc d) h = held_next plan s c d (held_one plan s c d) ((vcps s (sink_node plan (home plan d))).carrier.into d).held refl h
-
--- where a piece is held no process inputs
-no_input : (ch : Channel) (f : Phase) (x : ChanState) (n : ℕ) (q : Packet) → PhaseFits ch f x n → x.held ≡ Some q → x.wants ≡ false
-no_input ch Waiting x n q h e = h.2
-no_input ch y x n q h e = absurd (let k : None ≡ Some q = sym h.1 ∙ e in cc)
+use Rattle.vc_core.proofs.Still.{halves_held, held_one, unasked}
 
 -- what is all of a list leaves nothing
 none_left : (xs rest ys : List (List ℕ)) → xs ++ rest ≡ ys → length ys ≤ length xs → xs ≡ ys
@@ -105,7 +73,7 @@ module _ (p : Plan) (acc : IsAccepted p) (s : Network (Actor Process) Token) (t 
       record {
         packet = q.0;
         held = q.1;
-        unasked = sym (ap (λ (x : ChanState). x.wants) chan) ∙ no_input ((net_of M).chan c) (inv.phases c) (t.nodes.chans c) _ q.0 fits (ap (λ (x : ChanState). x.held) chan ∙ q.1);
+        unasked = sym (ap (λ (x : ChanState). x.wants) chan) ∙ unasked ((net_of M).chan c) (inv.phases c) (t.nodes.chans c) _ q.0 fits (ap (λ (x : ChanState). x.held) chan ∙ q.1);
       }
 
   pub asked_through : (c v : ℕ) (ab : Bool) → home M c ≡ Way v ab → c < length M.channels → (in_half p s c).wants ≡ true → IsThrough p s c

@@ -1,9 +1,8 @@
 -- A process over other variables, renamed back: it is the process that it was, and has the same traces.
-use Rattle.std.proofs.Common.{◌≡◌, ℕ, ◌+◌, ◌-◌, ◌<◌, Bool, true, false, ◌||◌, refl, sym, ap, ap₂, subst, ◌∙◌, List, inl, inr, arith, eq-eqb, eqb-true, nat_lt}
-use Rattle.std.proofs.lemmas.Bool.{lt-ltb, ltb-true}
+use Rattle.std.proofs.Common.{◌≡◌, ℕ, ◌+◌, ◌-◌, ◌<◌, true, false, refl, sym, ap, ap₂, subst, ◌∙◌, List, inl, inr, arith, eq-eqb, eqb-true, nat_lt}
+use Rattle.std.proofs.lemmas.Bool.{lt-ltb, ltb-true, or_left, or_right}
 use Rattle.vc_occam.proofs.Renamings.{EndsAgree, trace_renamed}
 use Rattle.vc_occam.proofs.Sites.{either}
-use Rattle.vc_occam.proofs.Stores.{or_left, or_right}
 use Rattle.vc_occam.specs.Traces.{Comm, End, Open, Ended, Trace}
 use Rattle.vc_placement.specs.Parallel.{IsEnded}
 use Rattle.vc_plan.specs.OneNode.{IsBehind}
@@ -101,16 +100,9 @@ module _ (ρ : ℕ → ℕ) where
 
   or_of : (a b c d : Set) → Of a b → Of c d → Of (a ∪ c) (b ∪ d)
   or_of a b c d f g w h = elim (either (b w) (d w) h) [
-    | inl e ↦ (let r = f w e in (r.0, left_or (a r.0) (c r.0) r.1, r.2))
-    | inr e ↦ (let r = g w e in (r.0, right_or (a r.0) (c r.0) r.1, r.2))
+    | inl e ↦ (let r = f w e in (r.0, or_left (a r.0) (c r.0) r.1, r.2))
+    | inr e ↦ (let r = g w e in (r.0, or_right (a r.0) (c r.0) r.1, r.2))
   ]
-    where
-      left_or : (a b : Bool) → a ≡ true → (a || b) ≡ true
-      left_or a b e = ap (λ z. z || b) e
-
-      right_or : (a b : Bool) → b ≡ true → (a || b) ≡ true
-      right_or true b e = refl
-      right_or false b e = e
 
   exp_of : (a : Exp) → Of (in_exp a) (in_exp (renamed_exp ρ a))
   exp_of (Number z) = none_of

@@ -1,4 +1,3 @@
-pub mod Progress
 pub mod InStep
 pub mod TokenEvents
 pub mod Held

@@ -9,9 +9,9 @@ use Rattle.vc_accepted.specs.Process.{Process, does}
 use Rattle.vc_free.proofs.Held.{all_held, ways_empty, held_unasked, asked_through}
 use Rattle.vc_free.proofs.TokenEvents.{Moved, lifted}
 use Rattle.vc_free.proofs.Places.{Arrived, happened, arrived}
-use Rattle.vc_free.proofs.Progress.{Progress, goes_on}
 use Rattle.vc_free.specs.Delivery.{HasDelivered, Delivers, FreeNetworksDeliver}
-use Rattle.vc_machine.proofs.Still.{Standing, stands, still_is_clear}
+use Rattle.vc_machine.proofs.Progress.{IsAtRest, Progress, goes_on}
+use Rattle.vc_machine.proofs.Standing.{Standing, stands}
 use Rattle.vc_machine.specs.Dependencies as ways_ranks
 use Rattle.vc_machine.specs.Paths.{Net}
 use Rattle.vc_machine.specs.Still.{IsStill, IsClear}
@@ -54,7 +54,7 @@ module _ (p : Plan) (waiting : Waiting) (acc : IsAccepted p) (ranks : HasRanks p
   standing s a = stands ways_net back waiting plan.headers (net_accepted plan ok) (has_headers plan ok) (wires plan) a.events a.tokens a.run
 
   -- a token that can move is an event, and where none can there is no event without a move
-  found : (s : State) (a : Arrived p waiting s) → Progress ways_net back waiting a.tokens ⊎ IsStill ways_net back waiting a.tokens
+  found : (s : State) (a : Arrived p waiting s) → Progress ways_net back waiting a.tokens ⊎ IsAtRest ways_net back waiting a.tokens
   found s a = goes_on ways_net back waiting plan.headers a.tokens (net_accepted plan ok) ways_ranked (λ v h. back_real plan v h) (standing s a)
 
   no_event : (s : State) (a : Arrived p waiting s) → IsStill ways_net back waiting a.tokens → (e : ActBy Act) → IsNoMove e.act → IsEnabled plan waiting does s e → ⊥
@@ -64,12 +64,11 @@ module _ (p : Plan) (waiting : Waiting) (acc : IsAccepted p) (ranks : HasRanks p
       let r : TokenRun ways_net back waiting a.tokens (m.0 ∷ []) x.new = subst (λ z. TokenRun ways_net back waiting a.tokens z x.new) m.1 x.run in
       still m.0 r.0 m.2 r.1
 
-  delivered : (s : State) (a : Arrived p waiting s) → IsStill ways_net back waiting a.tokens → HasDelivered p waiting s
-  delivered s a still =
-      let clear : (w : ℕ) → w < ways plan → IsClear ways_net a.tokens w =
-      still_is_clear ways_net back waiting plan.headers (net_accepted plan ok) (has_headers plan ok) ways_ranked (wires plan) (λ v h. back_real plan v h) a.events a.tokens a.run still in
+  delivered : (s : State) (a : Arrived p waiting s) → IsAtRest ways_net back waiting a.tokens → HasDelivered p waiting s
+  delivered s a rest =
+      let clear : (w : ℕ) → w < ways plan → IsClear ways_net a.tokens w = rest.clear in
       record {
-        still = no_event s a still;
+        still = no_event s a rest.still;
         held = record { packets = all_held p acc s a.tokens a.good clear; ways = ways_empty p acc s a.tokens a.good clear };
         asked = λ c v ab at less. asked_through p acc s a.tokens a.good clear c v ab at (subst (λ n. c < n) same_channels less);
         unasked = λ c v ab at less. held_unasked p acc s a.tokens a.good clear c v ab at (subst (λ n. c < n) same_channels less);
@@ -88,8 +87,8 @@ module _ (p : Plan) (waiting : Waiting) (acc : IsAccepted p) (ranks : HasRanks p
     delivered = d.delivered;
   }
 
-  goes : (bound : ℕ) (s : State) (a : Arrived p waiting s) → BoundsRuns plan waiting does s bound → Progress ways_net back waiting a.tokens ⊎ IsStill ways_net back waiting a.tokens → Delivers p waiting s
-  goes bound s a few (inr still) = record { events = []; end = s; no_moves = tt; happen = record { states = λ n. refl; ways = λ w. refl }; delivered = delivered s a still }
+  goes : (bound : ℕ) (s : State) (a : Arrived p waiting s) → BoundsRuns plan waiting does s bound → Progress ways_net back waiting a.tokens ⊎ IsAtRest ways_net back waiting a.tokens → Delivers p waiting s
+  goes bound s a few (inr rest) = record { events = []; end = s; no_moves = tt; happen = record { states = λ n. refl; ways = λ w. refl }; delivered = delivered s a rest }
   goes zero s a few (inl x) =
       let m = lifted p acc waiting s a.tokens a.good a.placed x.event x.new x.moves x.step in
       absurd (let k : 1 ≤ 0 = few (m.event ∷ []) m.new (m.no_move, tt) (m.new, m.happens, record { states = λ n. refl; ways = λ w. refl }) in omega arith)

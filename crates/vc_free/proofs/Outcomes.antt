@@ -111,7 +111,7 @@ module _ (ends : Ends) (a b : Carrier) (p q : Process) where
   arrived pk what (takes (advances c end now later here ack under is after)) goes = acked what c end later here is after goes
   arrived pk what (stray none is after) goes = halves_stay (ap (λ z. z.into) after) (ap (λ z. z.out) after) (as_taken what Stray is goes)
 
-unqueued_halves : (x : Carrier) (l : ℕ) (rest : List Packet) (k : Token) → ((unqueued x l rest k).into ≡ x.into) × ((unqueued x l rest k).out ≡ x.out)
+pub unqueued_halves : (x : Carrier) (l : ℕ) (rest : List Packet) (k : Token) → ((unqueued x l rest k).into ≡ x.into) × ((unqueued x l rest k).out ≡ x.out)
 unqueued_halves x l rest (EndMark m) = (refl, refl)
 unqueued_halves x l rest t = (refl, refl)
 

@@ -1,65 +1,19 @@
 -- A trace of a PAR of many processes, each moved behind the variables of those before it, is split into traces of the processes.
-use Rattle.std.proofs.Common.{◌≡◌, ◌≢◌, ℕ, zero, suc, ◌+◌, ◌≤◌, ◌<◌, Bool, true, false, length-append, refl, sym, ap, ap₂, subst, ◌∙◌, List, [], ◌∷◌, ◌++◌, length, map, slice_get, Some, arith, ◌==◌, eq-eqb, ne_eqb, if◌then◌else◌}
-use Rattle.std.proofs.lemmas.List.{length-map, map-append}
+use Rattle.std.proofs.Common.{◌≡◌, ◌≢◌, ℕ, zero, suc, ◌+◌, ◌≤◌, ◌<◌, Bool, true, false, refl, sym, ap, ap₂, subst, ◌∙◌, List, [], ◌∷◌, length, slice_get, Some, arith, ◌==◌, eq-eqb, ne_eqb, if◌then◌else◌}
 use Rattle.vc_accepted.specs.OneList.{by}
 use Rattle.vc_free.proofs.Inverse.{moved_back}
 use Rattle.vc_occam.proofs.Scope.{uses_there}
-use Rattle.vc_occam.specs.Opening.{empty_of}
 use Rattle.vc_occam.specs.Traces.{Comm, End, Open, Ended, both_ended, Merge, neither, from_left, from_right, Trace, TracePar, par_end, par_more}
 use Rattle.vc_placement.specs.Parallel.{without_nodes, IsEnded}
 use Rattle.vc_plan.specs.Limits.{kinds_of}
-use Rattle.vc_plan.specs.OneNode.{all_vars, AreProcesses}
+use Rattle.vc_plan.specs.OneNode.{AreProcesses}
 use Rattle.vc_plan.specs.declared.node_plan.NodePlan.{NodePlan}
-use Rattle.vc_plan.specs.declared.node_plan.Variable.{Variable as NodeVariable}
 use Rattle.vc_process.specs.Numbering.{written}
 use Rattle.vc_process.specs.ProcessLimits.{names_fit}
 use Rattle.vc_process.specs.Syntax.{Procs, no_parts, part}
-use Rattle.vc_process.specs.Terms.{store}
 use Rattle.vc_process.specs.Usage.{Set, changes}
 use Rattle.vc_process.specs.Values.{Store}
-use Rattle.vc_process.specs.declared.value_kind.ValueKind.{ValueKind}
-
--- ---- variables
-
--- what variables of these kinds hold at first
-abbrev pub empty : List ValueKind → Store
-empty kinds = store (map empty_of kinds)
-
-empty_first : (ks ls : List ValueKind) (v : ℕ) → v < length ks → empty (ks ++ ls) v ≡ empty ks v
-empty_first [] ls v h = absurd (omega arith)
-empty_first (k ∷ ks) ls zero h = refl
-empty_first (k ∷ ks) ls (suc v) h = empty_first ks ls v (omega arith)
-
-empty_second : (ks ls : List ValueKind) (v : ℕ) → empty (ks ++ ls) (length ks + v) ≡ empty ls v
-empty_second [] ls v = let e : 0 + v ≡ v = omega arith in ap (empty ls) e
-empty_second (k ∷ ks) ls v = let e : length (k ∷ ks) + v ≡ suc (length ks + v) = omega arith in ap (empty ((k ∷ ks) ++ ls)) e ∙ empty_second ks ls v
-
-kinds_append : (a b : List NodeVariable) → kinds_of (a ++ b) ≡ kinds_of a ++ kinds_of b
-kinds_append a b = map-append (λ (v : NodeVariable). v.kind) a b
-
-kinds_length : (a : List NodeVariable) → length (kinds_of a) ≡ length a
-kinds_length a = length-map a (λ (v : NodeVariable). v.kind)
-
--- from the k-th variable on stand those of these nodes, empty
-abbrev pub Holds : Store → ℕ → List NodePlan → Type 0
-Holds big k ns = (v : ℕ) → v < length (kinds_of (all_vars ns)) → big (k + v) ≡ empty (kinds_of (all_vars ns)) v
-
-holds_first : (big : Store) (k : ℕ) (n : NodePlan) (ns : List NodePlan) → Holds big k (n ∷ ns) → (v : ℕ) → v < length n.vars → big (k + v) ≡ empty (kinds_of n.vars) v
-holds_first big k n ns h v l =
-    let e = kinds_append n.vars (all_vars ns) in
-    let a = ap length e in
-    let b = length-append (kinds_of n.vars) (kinds_of (all_vars ns)) in
-    let c = kinds_length n.vars in
-    h v (omega arith) ∙ ap (λ z. empty z v) e ∙ empty_first (kinds_of n.vars) (kinds_of (all_vars ns)) v (omega arith)
-
-holds_rest : (big : Store) (k : ℕ) (n : NodePlan) (ns : List NodePlan) → Holds big k (n ∷ ns) → Holds big (k + length n.vars) ns
-holds_rest big k n ns h v l =
-    let e = kinds_append n.vars (all_vars ns) in
-    let a = ap length e in
-    let b = length-append (kinds_of n.vars) (kinds_of (all_vars ns)) in
-    let c = kinds_length n.vars in
-    let i : k + length n.vars + v ≡ k + (length (kinds_of n.vars) + v) = omega arith in
-    ap big i ∙ h (length (kinds_of n.vars) + v) (omega arith) ∙ ap (λ z. empty z (length (kinds_of n.vars) + v)) e ∙ empty_second (kinds_of n.vars) (kinds_of (all_vars ns)) v
+use Rattle.vc_placement.proofs.OneNode.{empty, kinds_length, Holds, holds_first, holds_rest}
 
 -- ---- who made what
 

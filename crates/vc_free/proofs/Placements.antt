@@ -9,12 +9,13 @@ use Rattle.vc_free.proofs.Converse.{ended_done}
 use Rattle.vc_free.proofs.Atomics.{do_all}
 use Rattle.vc_free.specs.Placements.{IsOtherPlacement, FreePlacementsDoTheSame}
 use Rattle.vc_network.specs.Actors.{Network}
-use Rattle.vc_network.specs.Network.{Node, Actor, IsNode}
+use Rattle.vc_network.specs.Network.{Node, Actor}
 use Rattle.vc_network.specs.Views.{view}
 use Rattle.vc_occam.specs.Remains.{Done}
 use Rattle.vc_occam.specs.Traces.{End, Open, Trace}
 use Rattle.vc_placement.proofs.Networks.{invisible}
 use Rattle.vc_placement.proofs.SameProgram.{one_meaning}
+use Rattle.vc_placement.proofs.OneNode.{same_node}
 use Rattle.vc_placement.specs.Linearization.{Atomic, all_comms, completed}
 use Rattle.vc_placement.specs.OneNode.{HaveEnded}
 use Rattle.vc_placement.specs.Parallel.{IsEnded}
@@ -22,9 +23,6 @@ use Rattle.vc_placement.specs.Placement.{IsLinearizationOf}
 use Rattle.vc_plan.specs.declared.plan.Plan.{Plan}
 use Rattle.vc_process.specs.Numbering.{written}
 use Rattle.vc_tokens.specs.Tokens.{Token}
-
-same_node : (a b : Node Process) → IsNode a ≡ IsNode b → a ≡ b
-same_node a b e = cc
 
 module _ (p q : Plan) (s : Network (Actor Process) Token) (hs : List Atomic) (same : IsOtherPlacement p q) (told : IsLinearizationOf p s hs) where
   -- what node n may do in the other plan, and how it ends

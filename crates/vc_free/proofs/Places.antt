@@ -6,7 +6,7 @@ use Rattle.vc_accepted.proofs.AcceptedNetwork.{accepted}
 use Rattle.vc_accepted.specs.Begin.{begin_of}
 use Rattle.vc_accepted.specs.NetworkOf.{network_of}
 use Rattle.vc_accepted.specs.Process.{Process, does}
-use Rattle.vc_free.proofs.InStep.{InStep, stays_in_step}
+use Rattle.vc_free.proofs.InStep.{stays_in_step}
 use Rattle.vc_free.proofs.TokenEvents.{Placed}
 use Rattle.vc_machine.specs.Links.{Tokens, no_tokens}
 use Rattle.vc_machine.specs.Rendezvous.{nothing_yet}
@@ -24,15 +24,10 @@ use Rattle.vc_plan.specs.declared.plan.Plan.{Plan}
 use Rattle.vc_switch.specs.Switch.{Switch, new_switch}
 use Rattle.vc_switch.specs.Waiting.{Waiting}
 use Rattle.vc_tokens.specs.Tokens.{Token}
-use Rattle.vc_vcp.specs.Carrier.{Carrier}
 use Rattle.vc_vcp.specs.Links.{Vcp, new_vcp}
-
--- no half is busy
-rests : (a : Carrier) (p : Process) → a ≡ new_vcp.carrier → InStep a p
-rests a p e = record {
-  inputs = λ c h. absurd (let q : (a.into c).wants ≡ false = ap (λ (z : Carrier). (z.into c).wants) e in let r : false ≡ true = sym q ∙ h in cc);
-  outputs = λ c h. absurd (h (ap (λ (z : Carrier). (z.out c).unacked) e));
-}
+use Rattle.vc_actor.specs.OfPlan.{InStep}
+use Rattle.vc_actor.proofs.OpeningState.{rests}
+use Rattle.vc_placement.proofs.OneNode.{same_node}
 
 pub first_vcp : (p : Plan) (n : ℕ) → vcp_of (first (network_of p) (begin_of p) n) ≡ new_vcp
 first_vcp p n = by_test (nat_lt n (length p.nodes))
@@ -51,9 +46,6 @@ first_placed p = record {
     past k =
         let e : nat_lt (length p.nodes + k) (length p.nodes) ≡ false = grind (arith, nat_tests) in
         ap (λ (b : Bool). if b then IsNode (record { vcp = new_vcp; process = begin_of p (length p.nodes + k); inner = λ c. nothing_yet }) else IsSwitch new_switch) e
-
-same_node : (a b : Node Process) → IsNode a ≡ IsNode b → a ≡ b
-same_node a b e = cc
 
 no_node : (a : Switch) (b : Node Process) → IsSwitch a ≡ IsNode b → ⊥
 no_node a b e = cc

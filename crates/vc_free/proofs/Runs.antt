@@ -1,5 +1,6 @@
 -- What a process does next where a trace of it goes on: steps without a communication, and then the step that communicates.
-use Rattle.std.proofs.Common.{◌≡◌, ℕ, ℤ, Bool, true, false, ◌||◌, eq-eqb, refl, sym, ap, subst, List, [], ◌∷◌, Option, Some, None}
+use Rattle.std.proofs.Common.{◌≡◌, ℕ, ℤ, true, eq-eqb, refl, sym, subst, List, [], ◌∷◌, Option, Some, None}
+use Rattle.std.proofs.lemmas.Bool.{or_left, or_right}
 use Rattle.std.specs.List.{Contains}
 use Rattle.vc_process.specs.declared.datum.Datum.{Datum}
 use Rattle.vc_process.specs.Messages.{message}
@@ -24,13 +25,6 @@ use Rattle.vc_occam.proofs.GoingOn.{finishes as ends_there}
 use Rattle.vc_occam.proofs.Lifting.{then_is, turns_is, index_is, left_is, right_is}
 use Rattle.vc_occam.proofs.StepWaits.{step_waits}
 use Rattle.vc_occam.proofs.Interleavings.{offers, finishes, takes, chooses, stops, Run, still, quiet, tells}
-
-left_or : (a b : Bool) → a ≡ true → (a || b) ≡ true
-left_or a b e = ap (λ z. z || b) e
-
-right_or : (a b : Bool) → b ≡ true → (a || b) ≡ true
-right_or true b e = refl
-right_or false b e = e
 
 -- a site makes a step without a communication, begins an output, inputs by itself or by a guard, or stops a channel, or its output is finished
 abbrev pub RestsAt : State → ℕ → State → Type 0
@@ -263,18 +257,18 @@ choose_waits (in_right {r = r} {mine = mine} st) = waits_right mine r (choose_wa
 
 pub want_on : {r q : Rest} {e f : Store} {i c : ℕ} {m : List ℕ} {ks : List Comm} → Step r e i (meeting None c m) ks q f → inputs_rest r c ≡ true
 want_on (does_input {c = c} x) = eq-eqb c c refl
-want_on {c = c} (in_then {r = r} {ps = ps} st) = left_or (inputs_rest r c) (inputs_all ps c) (want_on st)
-want_on {c = c} (in_turns {r = r} {p = p} st) = left_or (inputs_rest r c) (inputs p c) (want_on st)
-want_on {c = c} (in_left {r = r} {q = q} st) = left_or (inputs_rest r c) (inputs_rest q c) (want_on st)
-want_on {c = c} (in_right {r = r} {q = q} st) = right_or (inputs_rest r c) (inputs_rest q c) (want_on st)
+want_on {c = c} (in_then {r = r} {ps = ps} st) = or_left (inputs_rest r c) (inputs_all ps c) (want_on st)
+want_on {c = c} (in_turns {r = r} {p = p} st) = or_left (inputs_rest r c) (inputs p c) (want_on st)
+want_on {c = c} (in_left {r = r} {q = q} st) = or_left (inputs_rest r c) (inputs_rest q c) (want_on st)
+want_on {c = c} (in_right {r = r} {q = q} st) = or_right (inputs_rest r c) (inputs_rest q c) (want_on st)
 
 guard_on : {gs : Guards} {k : ℕ} {b : Test} {c v : ℕ} {p : Proc} → GuardAt gs k b c v p → inputs_guards gs c ≡ true
-guard_on (first {c = c} {p = p} {gs = gs}) = left_or ((just c ∪ inputs p) c) (inputs_guards gs c) (left_or (just c c) (inputs p c) (eq-eqb c c refl))
-guard_on (later {c = d} {c' = c} {p = p} {gs = gs} at) = right_or ((just d ∪ inputs p) c) (inputs_guards gs c) (guard_on at)
+guard_on (first {c = c} {p = p} {gs = gs}) = or_left ((just c ∪ inputs p) c) (inputs_guards gs c) (or_left (just c c) (inputs p c) (eq-eqb c c refl))
+guard_on (later {c = d} {c' = c} {p = p} {gs = gs} at) = or_right ((just d ∪ inputs p) c) (inputs_guards gs c) (guard_on at)
 
 pub choose_on : {r q : Rest} {e f : Store} {i k c : ℕ} {m : List ℕ} {ks : List Comm} → Step r e i (meeting (Some k) c m) ks q f → inputs_rest r c ≡ true
 choose_on (does_choose decided at holds x) = guard_on at
-choose_on {c = c} (in_then {r = r} {ps = ps} st) = left_or (inputs_rest r c) (inputs_all ps c) (choose_on st)
-choose_on {c = c} (in_turns {r = r} {p = p} st) = left_or (inputs_rest r c) (inputs p c) (choose_on st)
-choose_on {c = c} (in_left {r = r} {q = q} st) = left_or (inputs_rest r c) (inputs_rest q c) (choose_on st)
-choose_on {c = c} (in_right {r = r} {q = q} st) = right_or (inputs_rest r c) (inputs_rest q c) (choose_on st)
+choose_on {c = c} (in_then {r = r} {ps = ps} st) = or_left (inputs_rest r c) (inputs_all ps c) (choose_on st)
+choose_on {c = c} (in_turns {r = r} {p = p} st) = or_left (inputs_rest r c) (inputs p c) (choose_on st)
+choose_on {c = c} (in_left {r = r} {q = q} st) = or_left (inputs_rest r c) (inputs_rest q c) (choose_on st)
+choose_on {c = c} (in_right {r = r} {q = q} st) = or_right (inputs_rest r c) (inputs_rest q c) (choose_on st)

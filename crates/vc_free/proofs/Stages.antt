@@ -21,6 +21,7 @@ use Rattle.vc_switch.specs.Switch.{Switch}
 use Rattle.vc_switch.specs.Waiting.{Waiting}
 use Rattle.vc_tokens.specs.Tokens.{Token}
 use Rattle.vc_vcp.specs.Carrier.{End, OutHalf, InHalf}
+use Rattle.vc_placement.proofs.OneNode.{same_node}
 
 abbrev pub State : Type 0
 State = Network (Actor Process) Token
@@ -73,9 +74,6 @@ same_out x = record { offered = refl; finished = refl }
 
 same_in : (x : InHalf) → SameIn x x
 same_in x = record { wants = refl; stopped = refl; taken = refl }
-
-same_node : (a b : Node Process) → IsNode a ≡ IsNode b → a ≡ b
-same_node a b e = cc
 
 module _ (p : Plan) (waiting : Waiting) (s u : State) (n : ℕ) (label : Label Act Token) (step : Step (Local (network_of p) waiting does) s n label u) (procs : ℕ → Process) (views : ℕ → View) (wants : ℕ → Bool) (at : IsAt p s procs views wants) where
   abbrev N : network.Plan

@@ -1,25 +1,20 @@
 -- What a token can do an actor does: each step of the ways that is no move of a process is an event of the network.
-use Rattle.std.proofs.Common.{◌≡◌, ℕ, ◌+◌, ◌/◌, ◌%◌, ◌<◌, ◌==◌, true, inl, inr, List, ◌∷◌, ◌++◌, length, slice_get, Option, Some, None, refl, sym, ap, subst, ◌∙◌, arith}
-use Rattle.std.proofs.lemmas.Bool.Decides.{nat_tests}
+use Rattle.std.proofs.Common.{◌≡◌, ℕ, ◌+◌, ◌<◌, inl, inr, List, ◌∷◌, ◌++◌, length, Option, Some, None, refl, sym, ap, subst, ◌∙◌}
 use Rattle.vc_accepted.proofs.AcceptedNetwork.{accepted}
-use Rattle.vc_accepted.proofs.Across.{wire_is}
 use Rattle.vc_accepted.proofs.Elements.{there}
-use Rattle.vc_accepted.proofs.Ports.{side_of}
-use Rattle.vc_accepted.proofs.WayPorts.{wired}
-use Rattle.vc_accepted.specs.NetworkOf.{network_of, wire_of, port_at}
+use Rattle.vc_accepted.specs.NetworkOf.{network_of}
 use Rattle.vc_accepted.specs.Process.{Process, does}
-use Rattle.vc_free.proofs.InStep.{InStep, awaited, goes_on}
 use Rattle.vc_credit.specs.Ends.{Sender, Puts, puts_byte, puts_mark}
 use Rattle.vc_machine.specs.Links.{Tokens}
 use Rattle.vc_machine.specs.Machine as net
-use Rattle.vc_machine.specs.Paths.{Port, AtNode, AtSwitch, Net}
+use Rattle.vc_machine.specs.Paths.{Port, AtNode, AtSwitch}
 use Rattle.vc_machine.specs.Still.{MovesTokens}
 use Rattle.vc_machine.specs.TokenMachine as tok
 use Rattle.vc_machine.specs.TokenMachine.{TokenEvent, TokenStep}
 use Rattle.vc_network.proofs.Able.{body_back, node_passes, node_puts, node_grants, switch_passes, switch_grants}
 use Rattle.vc_network.proofs.Backs.{back_out}
 use Rattle.vc_network.proofs.TokenViews.{SwitchEnd, SameReceiver}
-use Rattle.vc_network.proofs.Steps.{Good}
+use Rattle.vc_network.proofs.Steps.{Good, puts_wormhole}
 use Rattle.vc_network.proofs.SwitchLinks.{bound_some, bound_back}
 use Rattle.vc_network.proofs.Wires.{one_near}
 use Rattle.vc_network.proofs.Writes.{own_step, take_step, put_step}
@@ -32,51 +27,22 @@ use Rattle.vc_network.specs.Plan as network
 use Rattle.vc_network.specs.Plan.{back, body_limit, ends, switch_plan, net_of, near, far, ways, IsOutOf, IsInto}
 use Rattle.vc_network.specs.Still.{IsNoMove}
 use Rattle.vc_network.specs.Views.{vcp_of, switch_of, vcps, switches}
-use Rattle.vc_plan.specs.Accepted.{IsAccepted, port_of}
-use Rattle.vc_plan.specs.Limits.{spot_there}
+use Rattle.vc_plan.specs.Accepted.{IsAccepted}
 use Rattle.vc_plan.specs.declared.plan.Plan.{Plan}
-use Rattle.vc_plan.specs.declared.port.Spot.{Spot}
-use Rattle.vc_plan.specs.declared.port.Spot.TheVariants.{Node as AtSpot, Switch as SwitchSpot}
-use Rattle.vc_plan.specs.declared.port.Wire.{Wire}
 use Rattle.vc_switch.proofs.Steps.{each_comes}
 use Rattle.vc_switch.specs.Able as switch_able
 use Rattle.vc_switch.specs.Switch as switch
 use Rattle.vc_switch.specs.Switch.{Switch, Input}
-use Rattle.vc_switch.specs.Waiting.{Waiting, Wormhole, MayGo}
+use Rattle.vc_switch.specs.Waiting.{Waiting, MayGo}
 use Rattle.vc_tokens.specs.Tokens as tokens
 use Rattle.vc_tokens.specs.Tokens.{Token, Byte, EndMark}
 use Rattle.vc_vcp.proofs.Arrivals.{comes_always}
 use Rattle.vc_vcp.specs.Able as node_able
-
-switch_same : (n m i l : ℕ) → AtSwitch n i ≡ AtSwitch m l → (n ≡ m) × (i ≡ l)
-switch_same n m i l e = (cc, cc)
-
-not_both : (n i k l : ℕ) → AtNode n i ≡ AtSwitch k l → ⊥
-not_both n i k l e = cc
-
--- a node of a wire is one of the plan
-node_at : (p : Plan) (s : Spot) (link n l : ℕ) → port_at s link ≡ AtNode n l → spot_there p s ≡ true → n < length p.nodes
-node_at p (AtSpot m) link n l at real = let same : m ≡ n = cc in subst (λ z. z < length p.nodes) same (grind (arith, nat_tests))
-node_at p (SwitchSpot m) link n l at real = absurd (cc)
-
-real_node : (p : Plan) → IsAccepted p → (w n l : ℕ) → IsOutOf (network_of p) w (AtNode n l) → n < length p.nodes
-real_node p acc w n l o = settle (there wire_of p.wires (w / 2) (let r = o.0 in omega arith))
-  where
-    settle : (x : Wire) × (slice_get p.wires (w / 2) ≡ Some x) → n < length p.nodes
-    settle (x, e) =
-        let side = w % 2 == 0 in
-        let at = port_of x side in
-        node_at p at.spot at.link n l (sym (side_of x side) ∙ ap (λ z. network.port_of z side) (sym (wire_is p (w / 2) x e)) ∙ o.1) (wired p acc (w / 2) x side e)
-
--- what may be put in store and forward may be put in wormhole
-bound_wormhole : (m : Net) (waiting : Waiting) (t : Tokens) (n v w : ℕ) (d : List ℕ) → tok.IsBoundTo m waiting t n v w d → tok.IsBoundTo m Wormhole t n v w d
-bound_wormhole m waiting t n v w d h = record { real = h.real; link = h.link; far = h.far; bound = h.bound; leaves = h.leaves; may_go = tt }
-
-puts_wormhole : (m : Net) (waiting : Waiting) (t : Tokens) (w : ℕ) (u : Tokens) → tok.Puts m waiting t w u → tok.Puts m Wormhole t w u
-puts_wormhole m waiting t w u (tok.node_byte n i p rest b more near front is after) = tok.node_byte n i p rest b more near front is after
-puts_wormhole m waiting t w u (tok.node_mark n i p rest near front is after) = tok.node_mark n i p rest near front is after
-puts_wormhole m waiting t w u (tok.switch_byte n v d b more bound is after) = tok.switch_byte n v d b more (bound_wormhole m waiting t n v w d bound) is after
-puts_wormhole m waiting t w u (tok.switch_mark n v d mark bound whole is after) = tok.switch_mark n v d mark (bound_wormhole m waiting t n v w d bound) whole is after
+use Rattle.vc_actor.specs.OfPlan.{InStep}
+use Rattle.vc_actor.proofs.Passes.{awaited}
+use Rattle.vc_core.proofs.GoingOn.{goes_on}
+use Rattle.vc_core.proofs.Still.{real_node}
+use Rattle.vc_machine.proofs.Ports.{switch_same, not_both}
 
 -- an input that is bound to no way is bound to no output
 unbound_input : (plan : network.Plan) (k : ℕ) (x b : Option ℕ) → SameBound plan k x b → b ≡ None → x ≡ None

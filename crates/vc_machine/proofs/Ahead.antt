@@ -11,7 +11,7 @@ use Rattle.vc_credit.specs.Ends.{Sender}
 use Rattle.vc_machine.specs.Links.{Receiver, Tokens}
 use Rattle.vc_switch.specs.Switch.{headed}
 use Rattle.vc_machine.specs.View.{MayDraw}
-use Rattle.vc_machine.proofs.Spellings.{bytes-append, mark_in_bytes, same_start}
+use Rattle.vc_tokens.proofs.Spellings.{bytes-append, mark_in_bytes, same_start}
 use Rattle.vc_machine.proofs.Update.{Changed, every}
 use Rattle.vc_machine.proofs.Heads.{not_empty, no_header}
 
@@ -101,6 +101,11 @@ within_body (b ∷ passed) xs (c ∷ body) m ys e =
     let t : bytes passed ++ xs ≡ bytes body ++ EndMark m ∷ ys = cc in
     let w = within_body passed xs body m ys t in
     (w.0, ap₂ (λ y z. y ∷ z) bc w.1)
+
+-- bytes before nothing are none
+pub no_bytes : (passed : List ℕ) (xs : List Token) → bytes passed ++ xs ≡ [] → passed ≡ []
+no_bytes [] xs e = refl
+no_bytes (b ∷ passed) xs e = absurd (cc)
 
 pub within_bytes : (passed : List ℕ) (xs : List Token) (sent : List ℕ) → bytes passed ++ xs ≡ bytes sent → (x : List ℕ) × (sent ≡ passed ++ x)
 within_bytes [] xs sent e = (sent, refl)

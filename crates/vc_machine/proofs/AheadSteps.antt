@@ -14,13 +14,14 @@ use Rattle.vc_switch.specs.Switch.{drawn}
 use Rattle.vc_machine.specs.TokenMachine.{TokenEvent, Proc, Take, Pass, Put, PutFct, TokenStep, arrive, with_header, put_byte, put_mark, released, keeps, loses, Passes, node_byte, node_mark, switch_byte, switch_mark, Puts, Grants, Binds}
 use Rattle.vc_machine.specs.View.{TokenView, BoundGroup, Bindings}
 use Rattle.vc_machine.specs.Private.Laws.{IsLimit, AllFit}
-use Rattle.vc_machine.proofs.Spellings.{without_fcts-append}
-use Rattle.vc_machine.proofs.Update.{changed, kept, put-same, put-other, every_put}
+use Rattle.vc_tokens.proofs.Spellings.{without_fcts-append}
+use Rattle.vc_machine.proofs.Update.{changed, kept, every_put}
 use Rattle.vc_machine.proofs.Heads.{group_with_header, same_switch, group_of}
 use Rattle.vc_machine.proofs.Bindings.{not_at_node}
 use Rattle.vc_machine.proofs.Queues.{Grown, reaches_grown, proc_grown}
 use Rattle.vc_machine.proofs.Ahead.{WholeGot, WholeAt, Sending, Ahead, KeepsBound, both_kept, bound_at, each_kept, from_kept, whole_byte, whole_mark, whole_put, whole_closed}
 use Rattle.vc_machine.proofs.PacketStarts.{Starts, start_node, start_switch, node_next, switch_next, switch_last}
+use Rattle.vc_machine.proofs.Basics.{put-same, put-other}
 
 -- what was put stays, and so does what is to come
 same_ahead : (net : Net) (Fits : ℕ → List ℕ → Type 0) (t u : Tokens) → (a : Ahead net Fits t) → ((w : ℕ) → (u.sender w).sent ≡ (t.sender w).sent) → Grown t.nodes u.nodes →

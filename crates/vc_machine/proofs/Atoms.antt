@@ -10,8 +10,8 @@ use Rattle.vc_machine.specs.Links.{Receiver, Tokens, Wires, set_sender, set_wire
 use Rattle.vc_switch.specs.Waiting.{Waiting}
 use Rattle.vc_machine.specs.TokenMachine.{TokenEvent, Proc, Take, Pass, Put, PutFct, arrive, Closes, keeps, loses, Passes, node_byte, node_mark, switch_byte, switch_mark, Puts}
 use Rattle.vc_machine.specs.Atomic.{SameActor, neither, takes_one, puts_one, IsAtomic, SameNode, Homes, StepsAreAtomic}
-use Rattle.vc_machine.proofs.Update.{put-other}
 use Rattle.vc_machine.proofs.NodeLocal.{node_self, queue_elsewhere, reaches_elsewhere, proc_elsewhere}
+use Rattle.vc_machine.proofs.Basics.{put-other}
 
 same_self : (p : Port) → SameActor p p
 same_self (AtNode n i) = refl

@@ -10,10 +10,11 @@ use Rattle.vc_labels.specs.declared.action.Action.{Action}
 use Rattle.vc_labels.specs.declared.action.Action.TheVariants.{Out, Portal}
 use Rattle.vc_labels.specs.declared.row.Row.{Row}
 use Rattle.vc_labels.specs.Interval.{action_for}
-use Rattle.vc_switch.specs.Forward.{past_portal, without_portals, IsDrawn, behind}
+use Rattle.vc_switch.specs.Forward.{past_portal, without_portals, IsDrawn, behind, HasRoom}
 use Rattle.vc_machine.specs.Machine.{BodyLeaves}
 use Rattle.vc_machine.proofs.Basics.{head_same, tail_same, header_same, header_rest_same}
 use Rattle.vc_machine.proofs.Labels.{Phase, Calm, Coming, Waiting, Returning, carried}
+use Rattle.vc_machine.proofs.Ports.{switch_same}
 
 -- the data of a packet, and its mark
 abbrev pub load_of : Phase → List (List ℕ) → List ℕ
@@ -87,6 +88,17 @@ pub left_same : (b : Bool) (ra rb : List ℕ) (h1 : ℕ) (r1 : List ℕ) (h2 : �
 left_same true ra rb h1 r1 h2 r2 s = s.1
 left_same false ra rb h1 r1 h2 r2 s = ap (λ h. h / 256 ∷ h % 256 ∷ (spelled r1 ++ ra)) s.0 ∙ ap (λ k. h2 / 256 ∷ h2 % 256 ∷ k) s.1
 
+-- a body leaves by one way in one form
+pub body_same : (net : Net) (n : ℕ) (b : List ℕ) (out : ℕ) (d e : List ℕ) → BodyLeaves net n b out d → BodyLeaves net n b out e → d ≡ e
+body_same net n b out d e k l =
+    let p = k.leaves in
+    let q = l.leaves in
+    let same = cover (net.switch n).table k.stack l.stack k.rest l.rest p.header p.rest q.header q.rest (sym k.before_is ∙ l.before_is) p.front q.front in
+    let link : p.link ≡ q.link = (switch_same n n p.link q.link (sym p.near ∙ q.near)).1 in
+    k.after_is ∙ ap (λ z. spelled z ++ k.rest) (p.left ∙ ap (λ z. if (net.switch n).deletes z then p.rest else p.header ∷ p.rest) link)
+    ∙ left_same ((net.switch n).deletes q.link) k.rest l.rest p.header p.rest q.header q.rest same
+    ∙ sym (l.after_is ∙ ap (λ z. spelled z ++ l.rest) q.left)
+
 -- a stack that begins a body and leaves a switch by some way leaves by each way by which the body may leave, with the same bytes behind
 pub record Follows (net : Net) (n : ℕ) (s load : List ℕ) (out : ℕ) (d : List ℕ) : Type 0 where
   pub after : List ℕ
@@ -122,20 +134,21 @@ follows net n s load b w t out d a e l =
     subst (λ k. Follows net n s load out k) (sym l.after_is) (leaves_follow net n s load w t l.stack l.rest out l.after a l.leaves (sym e ∙ l.before_is))
 
 -- where delivery holds at a switch
-pub record Onward (net : Net) (n : ℕ) (s : List ℕ) (fuel : ℕ) (e : End) : Type 0 where
+pub record Onward (net : Net) (n : ℕ) (v : Option ℕ) (s : List ℕ) (fuel : ℕ) (e : End) : Type 0 where
+  pub room : HasRoom v s
   pub way : ℕ
   pub stack : List ℕ
-  pub leaves : Leaves net n s way stack
-  pub each : (w : ℕ) (t : List ℕ) → Leaves net n s w t → (k : ℕ) × (k < fuel) × Delivers net k w t e
+  pub leaves : Leaves net n (behind v s) way stack
+  pub each : (w : ℕ) (t : List ℕ) → Leaves net n (behind v s) w t → (k : ℕ) × (k < fuel) × Delivers net k w t e
 
 pub onward : (net : Net) (fuel w : ℕ) (s : List ℕ) (e : End) (n i : ℕ) (v : Option ℕ) → net.far w ≡ AtSwitch n i → IsDrawn ((net.switch n).random i) v →
-    Delivers net fuel w s e → Onward net n (behind v s) fuel e
+    Delivers net fuel w s e → Onward net n v s fuel e
 onward net zero w s e n i v far draw d =
     let g = (subst (λ q. IsWellAt net (λ w2 s2. ⊥) q s e) far d) v draw in
-    record { way = g.1.0.0; stack = g.1.0.1; leaves = g.1.0.2; each = λ w2 t l. absurd (g.1.1 w2 t l) }
+    record { room = g.0; way = g.1.0.0; stack = g.1.0.1; leaves = g.1.0.2; each = λ w2 t l. absurd (g.1.1 w2 t l) }
 onward net (suc fuel) w s e n i v far draw d =
     let g = (subst (λ q. IsWellAt net (λ w2 s2. Delivers net fuel w2 s2 e) q s e) far d) v draw in
-    record { way = g.1.0.0; stack = g.1.0.1; leaves = g.1.0.2; each = λ w2 t l. (fuel, omega arith, g.1.1 w2 t l) }
+    record { room = g.0; way = g.1.0.0; stack = g.1.0.1; leaves = g.1.0.2; each = λ w2 t l. (fuel, omega arith, g.1.1 w2 t l) }
 
 pub at_node : (net : Net) (fuel w : ℕ) (s : List ℕ) (e : End) (n i : ℕ) → net.far w ≡ AtNode n i → Delivers net fuel w s e → (n ≡ e.node) × (s ≡ e.block ∷ [])
 at_node net zero w s e n i far d = subst (λ q. IsWellAt net (λ w2 s2. ⊥) q s e) far d

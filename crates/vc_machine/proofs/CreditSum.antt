@@ -10,8 +10,9 @@ use Rattle.vc_switch.specs.Waiting.{Waiting}
 use Rattle.vc_machine.specs.TokenMachine.{TokenEvent, Proc, Take, Pass, Put, PutFct, Route, TokenStep, arrive, Closes, keeps, loses, Passes, node_byte, node_mark, switch_byte, switch_mark, released, Puts, Grants}
 use Rattle.vc_machine.specs.Private.View.{Promised, Credited}
 use Rattle.vc_machine.specs.View.{IsWithinCredit}
-use Rattle.vc_machine.proofs.Spellings.{without_fcts-append, fcts-append}
-use Rattle.vc_machine.proofs.Update.{Changed, changed, kept, put-same, put-other, every}
+use Rattle.vc_tokens.proofs.Spellings.{without_fcts-append, fcts-append}
+use Rattle.vc_machine.proofs.Update.{Changed, changed, kept, every}
+use Rattle.vc_machine.proofs.Basics.{put-same, put-other}
 
 -- with the wires back as a function of their own
 abbrev pub Counts : (ℕ → Sender) → (ℕ → List Token) → (ℕ → List Token) → (ℕ → Receiver) → Type 0

@@ -1,5 +1,5 @@
 -- The way by which a packet comes to a switch depends on the way to which its input is bound, however much of it has come.
-use Rattle.std.proofs.Common.{◌≡◌, ℕ, ◌<◌, ◌⊎◌, inl, inr, List, [], ◌∷◌, ◌++◌, refl, sym, ap, subst, ◌∙◌, Option, append_assoc}
+use Rattle.std.proofs.Common.{◌≡◌, ℕ, ◌<◌, ◌⊎◌, inl, inr, List, [], ◌∷◌, ◌++◌, sym, ap, subst, ◌∙◌, Option, append_assoc}
 use Rattle.std.specs.List.{AllByRecursion}
 use Rattle.vc_packets.specs.declared.packet.Packet.{Packet}
 use Rattle.vc_packets.specs.Headers.{spelled}
@@ -7,25 +7,21 @@ use Rattle.vc_machine.specs.Paths.{AtSwitch, Net}
 use Rattle.vc_switch.specs.Forward.{behind}
 use Rattle.vc_switch.specs.Waiting.{Waiting}
 use Rattle.vc_machine.specs.Machine.{State, BodyLeaves}
-use Rattle.vc_tokens.specs.Tokens.{Token, EndMark, bytes, spelling, spellings, Spells, without_fcts}
+use Rattle.vc_tokens.specs.Tokens.{EndMark, bytes, spelling, spellings, Spells, without_fcts}
 use Rattle.vc_machine.specs.Links.{Tokens}
 use Rattle.vc_machine.specs.View.{MayDraw, nothing, begun, Inside, without_mark, with_mark, StandsFor}
 use Rattle.vc_machine.specs.Private.Laws.{FitsWay, AllFit}
 use Rattle.vc_machine.specs.Dependencies.{Depends}
 use Rattle.vc_machine.proofs.Heads.{no_group, longer, same_switch}
-use Rattle.vc_machine.proofs.Ahead.{Sending, within_body, within_bytes}
-use Rattle.vc_machine.proofs.Still.{Standing, depends}
-
-no_byte : (passed : List ℕ) (xs : List Token) → bytes passed ++ xs ≡ [] → passed ≡ []
-no_byte [] xs e = refl
-no_byte (b ∷ passed) xs e = absurd (cc)
+use Rattle.vc_machine.proofs.Ahead.{Sending, within_body, within_bytes, no_bytes}
+use Rattle.vc_machine.proofs.Standing.{Standing, depends}
 
 by_line : (net : Net) (most : ℕ) (t : Tokens) (full : ℕ → List ℕ) (v w n i : ℕ) (d : List ℕ) (drawn : Option ℕ) (passed : List ℕ) (line : List Packet) →
     net.far v ≡ AtSwitch n i → MayDraw net (net.far v) drawn → BodyLeaves net n (t.receiver v).got w d → (passed ≡ [] → ⊥) → (t.receiver v).got ≡ spelled (behind drawn []) ++ passed →
     Spells (bytes passed ++ ((t.receiver v).buffer ++ without_fcts (t.wire v))) line (t.sender v).sent → AllByRecursion (λ p. FitsWay net most v p.body) line →
     ((t.sender v).sent ≡ []) ⊎ Sending net (FitsWay net most) t full v → Depends net v w
 by_line net most t full v w n i d drawn passed [] far may group some got_is line fit (inl empty) =
-    absurd (some (no_byte passed _ (line ∙ ap bytes empty)))
+    absurd (some (no_bytes passed _ (line ∙ ap bytes empty)))
 by_line net most t full v w n i d drawn passed [] far may group some got_is line fit (inr s) =
     let x = within_bytes passed _ (t.sender v).sent line in
     let h = spelled (behind drawn []) in

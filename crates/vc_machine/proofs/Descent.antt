@@ -17,11 +17,11 @@ use Rattle.vc_machine.specs.Laws.{HasHeaders}
 use Rattle.vc_machine.specs.Dependencies.{Depends}
 use Rattle.vc_machine.specs.Still.{MovesTokens, BackStays, RunsEnd}
 use Rattle.vc_machine.proofs.PacketSizes.{spelled_length, leaves_shorter}
-use Rattle.vc_machine.proofs.Update.{put-same, put-other}
-use Rattle.vc_machine.proofs.Still.{Standing, bounded, stands}
+use Rattle.vc_machine.proofs.Standing.{Standing, bounded, stands}
 use Rattle.vc_machine.proofs.Dependency.{rising}
 use Rattle.vc_machine.proofs.Dues.{IsInOrder, in_order, reaching_spares}
 use Rattle.vc_machine.proofs.Weights.{weight, buffers, inputs, buffer_weight, input_weight, marks, sent_on, unbound, same_queues, credit_queues, byte_queues, mark_queues, wire_longer, wire_shorter, buffer_changed, input_changed, more_inputs, byte_inputs, free_inputs}
+use Rattle.vc_machine.proofs.Basics.{put-same, put-other}
 
 -- One receiver
 

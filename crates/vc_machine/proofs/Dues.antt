@@ -17,8 +17,8 @@ use Rattle.vc_machine.specs.Machine.{State, ChanState, store, advance, IsTaken, 
 use Rattle.vc_machine.specs.Laws.{HasHeaders}
 use Rattle.vc_machine.proofs.PacketSizes.{spelled_length}
 use Rattle.vc_machine.proofs.Labels.{Phase, Calm, Coming, Waiting, Returning, LeftAfter, PhaseFits, Inv}
-use Rattle.vc_machine.proofs.Update.{put-same}
 use Rattle.vc_machine.proofs.Weights.{offered_size, come_size, due, queues, dues, queued_weight, due_less, due_same}
+use Rattle.vc_machine.proofs.Basics.{put-same}
 
 joined_length : (xs : List (List ℕ)) (y : List ℕ) → length (joined (xs ++ y ∷ [])) ≡ length (joined xs) + length y
 joined_length [] y = omega (arith, length-append y [])

@@ -11,7 +11,7 @@ use Rattle.vc_machine.proofs.Labels.{Phase, Calm, Coming, Waiting, Returning, La
 use Rattle.vc_machine.proofs.Ways.{number_here, number_other}
 use Rattle.vc_machine.proofs.Counts.{number_plus, Going, going, is_of_own, is_of_one}
 
-abbrev AreGoing : Net → (ℕ → Phase) → (ℕ → ChanState) → (ℕ → ℕ) → Type 0
+abbrev pub AreGoing : Net → (ℕ → Phase) → (ℕ → ChanState) → (ℕ → ℕ) → Type 0
 AreGoing net ph chans n = (d : ℕ) → Carries net d → (n d ≡ 0 → ⊥) → Going (chans d) (ph d)
 
 queue_number : (net : Net) (ph : ℕ → Phase) (chans : ℕ → ChanState) (w c : ℕ) (ls : List Label) (ps : List Packet) → IsAccepted net → Carries net c →

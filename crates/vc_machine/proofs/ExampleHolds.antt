@@ -11,7 +11,7 @@ use Rattle.vc_switch.specs.Forward.{without_portals, IsDrawn, behind, HasRoom}
 use Rattle.vc_machine.specs.Machine.{State, WayState, Input, Empty, Full, start, set_way, set_chan, enqueue, accept, advance, emptied, carry, BodyLeaves, IsPieceFor, IsAckFor, holds, advances, taken, fills, fetches, Run}
 use Rattle.vc_packets.specs.Functions.{put}
 use Rattle.vc_machine.proofs.Basics.{put-other}
-use Rattle.vc_machine.proofs.Moves.{group_of}
+use Rattle.vc_machine.proofs.Heads.{group_of}
 use Rattle.vc_machine.specs.Example.{near, switch, channel, example, exchange}
 
 -- a header that isn't a portal, in front

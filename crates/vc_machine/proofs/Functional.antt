@@ -10,14 +10,14 @@ use Rattle.vc_tokens.specs.Tokens.{Token, Byte, Fct, EndMark, bytes, spelling, s
 use Rattle.vc_machine.specs.Links.{Tokens}
 use Rattle.vc_machine.specs.View.{Got, nothing, begun, Inside, without_mark, with_mark, TokenView}
 use Rattle.vc_machine.specs.PacketsOfTokens.{read, without_random, passed_on, input_of, seen}
-use Rattle.vc_machine.proofs.Spellings.{bytes-append, fcts-append, mark_in_bytes, first_packet}
+use Rattle.vc_tokens.proofs.Spellings.{bytes-append, fcts-append, mark_in_bytes, first_packet}
 use Rattle.vc_machine.proofs.Heads.{node_got}
 
-fcts_bytes : (bs : List ℕ) → fcts (bytes bs) ≡ 0
+pub fcts_bytes : (bs : List ℕ) → fcts (bytes bs) ≡ 0
 fcts_bytes [] = refl
 fcts_bytes (b ∷ bs) = fcts_bytes bs
 
-fcts_spellings : (ps : List Packet) → fcts (spellings ps) ≡ 0
+pub fcts_spellings : (ps : List Packet) → fcts (spellings ps) ≡ 0
 fcts_spellings [] = refl
 fcts_spellings (p ∷ ps) =
     let a = fcts-append (spelling p) (spellings ps) in

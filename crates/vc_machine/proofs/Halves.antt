@@ -74,7 +74,7 @@ store_left x now [] m cut whole offered count =
 store_left x now (d ∷ ds) m cut whole offered count =
     (m, cut.1, append_assoc x.stored now (joined (d ∷ ds)) ∙ whole, offered, count)
 
-store_unacked : (x : ChanState) (now : List ℕ) (last : Bool) → (store x now last).unacked ≡ x.unacked
+pub store_unacked : (x : ChanState) (now : List ℕ) (last : Bool) → (store x now last).unacked ≡ x.unacked
 store_unacked x now true = refl
 store_unacked x now false = refl
 

@@ -32,9 +32,8 @@ pub mod StepRefinement
 pub mod Refinement
 pub mod Runs
 pub mod ViewChanges
-pub mod Spellings
 pub mod PacketStarts
-pub mod TokenCover
+pub mod Ports
 pub mod TokenMain
 pub mod TokenNodes
 pub mod TokenUnique
@@ -44,6 +43,8 @@ pub mod Views
 pub mod Ways
 pub mod Ownership
 pub mod Short
+pub mod Standing
+pub mod Progress
 pub mod Still
 pub mod Totals
 pub mod Weights

@@ -14,7 +14,7 @@ use Rattle.vc_machine.specs.TokenMachine.{TokenEvent, Put, TokenStep, TokenRun, 
 use Rattle.vc_machine.specs.View.{MayDraw, nothing, begun, Inside, without_mark, with_mark, StandsFor, TokenView, Bindings}
 use Rattle.vc_machine.specs.Laws.{Ranges, WithinLimit, PutsGoOn, IsSound}
 use Rattle.vc_machine.specs.Private.Laws.{IsLimit, AllFit}
-use Rattle.vc_machine.proofs.Ahead.{Sending, Ahead, within_body, within_bytes}
+use Rattle.vc_machine.proofs.Ahead.{Sending, Ahead, within_body, within_bytes, no_bytes}
 use Rattle.vc_machine.proofs.PacketStarts.{start_switch, node_next, switch_next, switch_last}
 use Rattle.vc_machine.proofs.AheadSteps.{step_ahead, nothing_ahead}
 use Rattle.vc_machine.proofs.StepRefinement.{as_run, run_joined}
@@ -41,10 +41,6 @@ begun_short : (net : Net) (Fits : ℕ → List ℕ → Type 0) (limit : ℕ) (t 
     IsLimit net Fits limit → MayDraw net (net.far w) drawn → (passed ≡ [] → ⊥) → Spells (bytes passed ++ xs) line (t.sender w).sent → AllByRecursion (λ p. Fits w p.body) line →
     ((t.sender w).sent ≡ []) ⊎ Sending net Fits t full w → length (spelled (behind drawn []) ++ passed) ≤ limit
 begun_short net Fits limit t full w drawn passed xs [] limits may some line fit (inl none) = absurd (some (no_bytes passed xs (line ∙ ap bytes none)))
-  where
-    no_bytes : (passed : List ℕ) (xs : List Token) → bytes passed ++ xs ≡ [] → passed ≡ []
-    no_bytes [] xs e = refl
-    no_bytes (b ∷ passed) xs e = absurd (cc)
 begun_short net Fits limit t full w drawn passed xs [] limits may some line fit (inr s) =
     let x = within_bytes passed xs (t.sender w).sent line in
     let h = spelled (behind drawn []) in

@@ -1,5 +1,6 @@
 -- A labelled plan of virtual links gives an accepted network.
 use Rattle.std.proofs.Common.{◌≡◌, ℕ, ◌<◌, Bool, true, false, sym, subst, Option, not, refl}
+use Rattle.std.proofs.Math.Bool.{not-not}
 use Rattle.vc_machine.specs.Paths.{Carries, End, Channel, Net, Delivers, IsAtBlock, IsAccepted}
 use Rattle.vc_switch.specs.Forward.{IsDrawn}
 
@@ -36,17 +37,13 @@ not_same false false e = refl
 not_same true false e = sym e
 not_same false true e = sym e
 
-not_not : (p : Bool) → not (not p) ≡ p
-not_not true = refl
-not_not false = refl
-
 pub labelled_accepted : (net : Net) (count : ℕ) (links : ℕ → Link) (ons : ℕ → On) → IsLabelled net count links ons → IsAccepted net
 labelled_accepted net count links ons h =
     record {
       ways = λ c r. subst (λ k. (k.from.way < net.ways) × (k.to.way < net.ways)) (sym (h.chan c)) (h.sends (ons c).link (ons c).ab (h.on_link c r), h.sends (ons c).link (not (ons c).ab) (h.on_link c r));
       there = λ c r. subst (λ k. Delivers net 32 k.from.way k.from.route k.to) (sym (h.chan c)) (h.delivers (ons c).link (ons c).ab (h.on_link c r));
       back = λ c r. subst (λ k. Delivers net 32 k.to.way k.to.route k.from) (sym (h.chan c))
-          (subst (λ p. Delivers net 32 (end_of (links (ons c).link) (not (ons c).ab)).way (end_of (links (ons c).link) (not (ons c).ab)).route (end_of (links (ons c).link) p)) (not_not (ons c).ab)
+          (subst (λ p. Delivers net 32 (end_of (links (ons c).link) (not (ons c).ab)).way (end_of (links (ons c).link) (not (ons c).ab)).route (end_of (links (ons c).link) p)) (not-not (ons c).ab)
           (h.delivers (ons c).link (not (ons c).ab) (h.on_link c r)));
       one_in = λ c d r q e. (let g = subst (λ k. IsAtBlock k.to (channel_on links (ons d)).to.node (channel_on links (ons d)).to.block) (h.chan c) (subst (λ k. IsAtBlock (net.chan c).to k.to.node k.to.block) (h.chan d) e) in
           let s = h.one_end (ons c).link (ons d).link (not (ons c).ab) (not (ons d).ab) (h.on_link c r) (h.on_link d q) g in

@@ -4,11 +4,12 @@ use Rattle.vc_packets.specs.declared.packet.Packet.{Packet}
 use Rattle.vc_packets.specs.Headers.{spelled}
 use Rattle.vc_machine.specs.Paths.{AtSwitch, Net, Leaves}
 use Rattle.vc_switch.specs.Forward.{behind, IsDrawn}
-use Rattle.vc_machine.specs.Machine.{State, WayState, ChanState, Empty, Full, set_way, BodyLeaves, Sends, fills, lost, Enters, Routes, Departs, HasGroup}
+use Rattle.vc_machine.specs.Machine.{State, WayState, ChanState, Empty, Full, set_way, BodyLeaves, Sends, fills, lost, Enters, Routes, Departs}
 use Rattle.vc_packets.specs.Functions.{put}
 use Rattle.vc_machine.proofs.Labels.{Phase, Label, Labels, number, in_way, tally, On, InputFits, WayFits, ChanFits, Inv, number-append, tally_put, goal_end}
 use Rattle.vc_machine.proofs.Ways.{set_fits, zip_push, front_of, push_line}
 use Rattle.vc_machine.proofs.Cover.{load_of, body_is, restacked, spelled_behind, follows, onward}
+use Rattle.vc_machine.proofs.Heads.{group_of}
 
 pub moved : (net : Net) (s : State) (i : Inv net s) (w : ℕ) → w < net.ways → (a : WayState) (b : Labels) → WayFits net i.phases s.chans w a b →
     ((c : ℕ) → in_way c b ≡ in_way c (i.labels w)) → Inv net (set_way s w a)
@@ -79,20 +80,6 @@ has_way net ph chans w v l p n i far draw on =
         after_is = refl;
       },
     )
-
-pub group_of : (net : Net) (n : ℕ) (b : List ℕ) (out : ℕ) (d : List ℕ) → BodyLeaves net n b out d → HasGroup net n b
-group_of net n b out d l =
-    record {
-      stack = l.stack;
-      rest = l.rest;
-      header = l.leaves.header;
-      behind_it = l.leaves.rest;
-      first = l.leaves.first;
-      last = l.leaves.last;
-      is = l.before_is;
-      front = l.leaves.front;
-      group = l.leaves.group;
-    }
 
 pub entered : (net : Net) (s t : State) (w : ℕ) (v : Option ℕ) → Inv net s → Enters net s w v t → Inv net t
 entered net s t w v i h =

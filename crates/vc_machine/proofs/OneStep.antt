@@ -1,5 +1,6 @@
 -- On an accepted network an event leads from a state to one state only.
-use Rattle.std.proofs.Common.{◌≡◌, ℕ, List, [], ◌∷◌, ◌++◌, sym, ap, subst, ◌∙◌, Option, Some, None, true, false, if◌then◌else◌}
+use Rattle.std.proofs.Common.{◌≡◌, ℕ, List, [], ◌∷◌, ◌++◌, sym, ap, subst, ◌∙◌, Option, Some, None, true, false}
+use Rattle.std.proofs.lemmas.Option.{same_Some}
 use Rattle.vc_packets.specs.declared.packet.Packet.{Packet}
 use Rattle.vc_packets.specs.Headers.{spelled}
 use Rattle.vc_packets.specs.Spellings.{piece_packet}
@@ -7,22 +8,8 @@ use Rattle.vc_machine.specs.Paths.{Port, AtNode, AtSwitch, Net, IsAccepted}
 use Rattle.vc_switch.specs.Forward.{behind}
 use Rattle.vc_machine.specs.Machine.{State, Input, Full, set_way, set_chan, enqueue, accept, advance, emptied, carry, BodyLeaves, Event, Offer, Want, Choose, Stop, Send, Receive, Enter, Route, Leave, IsPieceFor, IsTaken, stores, holds, advances, Reaches, taken, stray, Settles, fills, lost, Fetches, Wants, fetches, waits, Step}
 use Rattle.vc_machine.proofs.NodeSteps.{same_piece, same_ack, not_both}
-use Rattle.vc_machine.proofs.Cover.{cover, left_same}
+use Rattle.vc_machine.proofs.Cover.{body_same}
 use Rattle.vc_packets.proofs.PieceLists.{pieces_same}
-
-link_of : (n i j : ℕ) → AtSwitch n i ≡ AtSwitch n j → i ≡ j
-link_of n i j e = cc
-
--- a body leaves by one way in one form
-pub body_same : (net : Net) (n : ℕ) (b : List ℕ) (out : ℕ) (d e : List ℕ) → BodyLeaves net n b out d → BodyLeaves net n b out e → d ≡ e
-body_same net n b out d e k l =
-    let p = k.leaves in
-    let q = l.leaves in
-    let same = cover (net.switch n).table k.stack l.stack k.rest l.rest p.header p.rest q.header q.rest (sym k.before_is ∙ l.before_is) p.front q.front in
-    let link : p.link ≡ q.link = link_of n p.link q.link (sym p.near ∙ q.near) in
-    k.after_is ∙ ap (λ z. spelled z ++ k.rest) (p.left ∙ ap (λ z. if (net.switch n).deletes z then p.rest else p.header ∷ p.rest) link)
-    ∙ left_same ((net.switch n).deletes q.link) k.rest l.rest p.header p.rest q.header q.rest same
-    ∙ sym (l.after_is ∙ ap (λ z. spelled z ++ l.rest) q.left)
 
 -- what is taken
 taken_same : (net : Net) (s : State) (n : ℕ) (p : Packet) (t u : State) → IsAccepted net → IsTaken net s n p t → IsTaken net s n p u → t ≡ u
@@ -87,9 +74,6 @@ node_same o n i m j e h = cc
 switch_same : (o : Port) (n i m j : ℕ) → o ≡ AtSwitch n i → o ≡ AtSwitch m j → n ≡ m
 switch_same o n i m j e h = cc
 
-some_same : (a b : ℕ) → Some a ≡ Some b → a ≡ b
-some_same a b e = cc
-
 pub step_same : (net : Net) (s : State) (e : Event) (t u : State) → IsAccepted net → Step net s e t → Step net s e u → t ≡ u
 step_same net s (Offer c m) t u acc a b =
     let same = pieces_same m (a.now ∷ a.later) (b.now ∷ b.later) a.pieces b.pieces in
@@ -123,7 +107,7 @@ step_same net s (Route w out) t u acc a b =
     a.after ∙ ap (λ k. set_way s w (record (s.ways w) { input = Full k (Some out) })) same.0 ∙ sym b.after
 step_same net s (Leave w) t u acc a b =
     let same = full_same (s.ways w).input a.packet b.packet (Some a.out) (Some b.out) a.full b.full in
-    let outs = some_same a.out b.out same.1 in
+    let outs = same_Some a.out b.out same.1 in
     let switches = switch_same (net.far w) a.switch a.link b.switch b.link a.far b.far in
     let l = subst (λ k. BodyLeaves net b.switch k.body b.out a.body) same.0 (subst (λ k. BodyLeaves net b.switch a.packet.body k a.body) outs (subst (λ k. BodyLeaves net k a.packet.body a.out a.body) switches a.leaves)) in
     let bodies = body_same net b.switch b.packet.body b.out a.body b.body l b.leaves in

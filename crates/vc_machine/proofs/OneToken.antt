@@ -1,10 +1,12 @@
 -- On an accepted network an event leads from tokens to one state only.
-use Rattle.std.proofs.Common.{◌≡◌, ℕ, List, [], ◌∷◌, ◌++◌, sym, ap, subst, ◌∙◌, Some}
+use Rattle.std.proofs.Common.{◌≡◌, ℕ, List, [], ◌∷◌, ◌++◌, sym, ap, subst, ◌∙◌}
+use Rattle.std.proofs.lemmas.Option.{same_Some}
 use Rattle.vc_packets.specs.declared.mark.Mark.{Mark}
 use Rattle.vc_packets.specs.declared.packet.Packet.{Packet}
 use Rattle.vc_machine.specs.Paths.{Port, AtNode, AtSwitch, Net, IsAccepted}
 use Rattle.vc_machine.specs.Machine.{State, Reaches, BodyLeaves, set_way}
-use Rattle.vc_machine.proofs.OneStep.{step_same, reaches_same, body_same}
+use Rattle.vc_machine.proofs.Cover.{body_same}
+use Rattle.vc_machine.proofs.OneStep.{step_same, reaches_same}
 use Rattle.vc_tokens.specs.Tokens.{Token, Byte, EndMark}
 use Rattle.vc_machine.specs.Links.{Tokens, set_wire, set_receiver}
 use Rattle.vc_switch.specs.Waiting.{Waiting}
@@ -31,9 +33,6 @@ switch_one p n i m j e h = (cc, cc)
 
 packet_same : (xs : List Packet) (p q : Packet) (ps qs : List Packet) → xs ≡ p ∷ ps → xs ≡ q ∷ qs → (p ≡ q) × (ps ≡ qs)
 packet_same xs p q ps qs e h = (cc, cc)
-
-some_mark : (m k : Mark) → Some m ≡ Some k → m ≡ k
-some_mark m k e = cc
 
 takes_same : (net : Net) (back : ℕ → ℕ) (t : Tokens) (w word : ℕ) (u v : Tokens) → Takes net back t w word u → Takes net back t w word v → u ≡ v
 takes_same net back t w word u v a b =
@@ -151,7 +150,7 @@ puts_same net waiting t w u v b (switch_mark n x d m k mark is e) (switch_byte n
     absurd (no_next (t.sender w).sent c2 more2 d (s.1 ∙ is2) is)
 puts_same net waiting t w u v b (switch_mark n x d m k mark is e) (switch_mark n2 x2 d2 m2 k2 mark2 is2 h) =
     let s = bound_same net waiting t n x w d n2 x2 d2 b k k2 in
-    let y : m ≡ m2 = some_mark m m2 (sym mark ∙ ap (λ j. (t.receiver j).mark) s.0 ∙ mark2) in
+    let y : m ≡ m2 = same_Some m m2 (sym mark ∙ ap (λ j. (t.receiver j).mark) s.0 ∙ mark2) in
     e ∙ (λ j. put_mark (released t (s.0 j)) w (y j)) ∙ sym h
 
 pub token_step_same : (net : Net) (back : ℕ → ℕ) (waiting : Waiting) (t : Tokens) (e : TokenEvent) (u v : Tokens) → IsAccepted net → Bindings net t →

@@ -12,14 +12,11 @@ use Rattle.vc_machine.specs.Places.{Place, Queue, OnWire, Inside, Held, of_input
 use Rattle.vc_machine.specs.Owners.{HasOwner, EachHasOwner, OwnersAreOne, Path, ends, hops, ReachesEnd, PathsReachEnds}
 use Rattle.vc_machine.proofs.Labels.{Phase, Label, Labels, number, in_way, tally, On, InputFits, WayFits, Inv, in_way_le_tally}
 use Rattle.vc_machine.proofs.Ways.{number_here}
-use Rattle.vc_machine.proofs.Counts.{Going, going, is_of_own, front_same, piece_ack}
-use Rattle.vc_machine.proofs.Exactly.{drawn_both, same_port}
+use Rattle.vc_machine.proofs.Counts.{going, is_of_own, front_same, piece_ack}
+use Rattle.vc_machine.proofs.Exactly.{drawn_both, same_port, AreGoing}
 use Rattle.vc_machine.proofs.Cover.{spelled_behind, follows, onward, at_node}
 use Rattle.vc_machine.proofs.Unique.{same_end}
 use Rattle.vc_machine.proofs.Runs.{at_start, ran}
-
-abbrev AreGoing : Net → (ℕ → Phase) → (ℕ → ChanState) → (ℕ → ℕ) → Type 0
-AreGoing net ph chans n = (d : ℕ) → Carries net d → (n d ≡ 0 → ⊥) → Going (chans d) (ph d)
 
 pub all_both : {X : Type 0} (B : X → Type 0) (xs ys : List X) → AllByRecursion B xs → AllByRecursion B ys → AllByRecursion B (xs ++ ys)
 all_both B [] ys a b = b

@@ -1,5 +1,5 @@
 -- On an accepted plan all packets of the packet machine fit.
-use Rattle.std.proofs.Common.{◌≡◌, ℕ, suc, ◌+◌, ◌*◌, ◌/◌, ◌%◌, ◌≤◌, Bool, true, false, List, [], ◌∷◌, ◌++◌, length, refl, sym, ap, subst, ◌∙◌, arith, if◌then◌else◌, Option, Some, None, append-nil, length-append}
+use Rattle.std.proofs.Common.{◌≡◌, ℕ, suc, ◌+◌, ◌*◌, ◌≤◌, Bool, true, false, List, [], ◌∷◌, ◌++◌, length, refl, sym, ap, subst, ◌∙◌, arith, if◌then◌else◌, Option, Some, None, append-nil, length-append}
 use Rattle.std.specs.List.{AllByRecursion}
 use Rattle.vc_packets.specs.declared.packet.Packet.{Packet}
 use Rattle.vc_packets.specs.Headers.{spelled}
@@ -17,7 +17,8 @@ use Rattle.vc_machine.specs.Private.Laws.{FitsWay, IsLimit, CameFitting, AllFit}
 use Rattle.vc_machine.specs.Laws.{HasHeaders}
 use Rattle.vc_machine.proofs.Update.{every_put}
 use Rattle.vc_machine.proofs.Heads.{same_switch}
-use Rattle.vc_machine.proofs.TokenCover.{follows, onward}
+use Rattle.vc_machine.proofs.Cover.{follows, onward, spelled_behind}
+use Rattle.vc_machine.proofs.Halves.{store_unacked}
 
 pub spelled_length : (s : List ℕ) → length (spelled s) ≡ 2 * length s
 spelled_length [] = omega arith
@@ -44,10 +45,6 @@ leaves_shorter net n s w t l =
     let d = ap length l.left in
     omega arith
 
-spelled_behind : (v : Option ℕ) (s : List ℕ) (r b : List ℕ) → b ≡ spelled s ++ r → spelled (behind v []) ++ b ≡ spelled (behind v s) ++ r
-spelled_behind None s r b e = e
-spelled_behind (Some v) s r b e = ap (λ k. v / 256 ∷ v % 256 ∷ k) e
-
 behind_fits : (net : Net) (most n i : ℕ) (v : Option ℕ) (s : List ℕ) → HasHeaders net most → IsDrawn ((net.switch n).random i) v → HasRoom v s → length s ≤ most → length (behind v s) ≤ most
 behind_fits net most n i None s h draw room l = l
 behind_fits net most n i (Some v) s h draw room l = let k = h.random n i v (length s) draw room in omega arith
@@ -69,7 +66,7 @@ limits net most h =
           let next = o.each out g.after g.leaves in
           let a = leaves_shorter net n (behind drawn f.stack) out g.after g.leaves in
           let k = behind_fits net most n i drawn f.stack h draw o.room f.headers in
-          record { stack = g.after; load = f.load; fuel = next.0; to = f.to; body = g.body; delivers = next.1; stands = by_hop n i drawn f.stands far draw g.leaves; headers = omega arith; small = f.small };
+          record { stack = g.after; load = f.load; fuel = next.0; to = f.to; body = g.body; delivers = next.2; stands = by_hop n i drawn f.stands far draw g.leaves; headers = omega arith; small = f.small };
     }
 
 -- the invariant
@@ -117,14 +114,10 @@ ack_fits : (net : Net) (most : ℕ) → IsAccepted net → HasHeaders net most �
 ack_fits net most a h c real =
     record { stack = (net.chan c).to.route; load = []; fuel = 32; to = (net.chan c).from; body = sym (append-nil (spelled (net.chan c).to.route)); delivers = a.back c real; stands = by_ack c real; headers = (h.routes c real).1; small = omega arith }
 
-store_keeps : (x : ChanState) (load : List ℕ) (last : Bool) → (store x load last).unacked ≡ x.unacked
-store_keeps x load true = refl
-store_keeps x load false = refl
-
 accept_fits : (net : Net) (most : ℕ) → IsAccepted net → HasHeaders net most → (s : State) (c : ℕ) (load : List ℕ) (last : Bool) → Carries net c → PacketsFit net most s → PacketsFit net most (accept net s c load last)
 accept_fits net most a h s c load last real f =
     queue_fits net most (set_chan s c (store (s.chans c) load last)) (net.chan c).to.way (ack_packet (net.chan c).to.route)
-    (chan_fits net most s c (store (s.chans c) load last) f (subst (AllByRecursion (λ (d : List ℕ). length d ≤ 32)) (sym (store_keeps (s.chans c) load last)) (f.pieces c)))
+    (chan_fits net most s c (store (s.chans c) load last) f (subst (AllByRecursion (λ (d : List ℕ). length d ≤ 32)) (sym (store_unacked (s.chans c) load last)) (f.pieces c)))
     (ack_fits net most a h c real)
 
 advance_fits : (net : Net) (most : ℕ) → IsAccepted net → HasHeaders net most → (s : State) (c : ℕ) (later : List (List ℕ)) → Carries net c → AllByRecursion (λ (d : List ℕ). length d ≤ 32) later → PacketsFit net most s →

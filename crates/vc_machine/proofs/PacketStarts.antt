@@ -15,10 +15,11 @@ use Rattle.vc_switch.specs.Waiting.{Waiting}
 use Rattle.vc_machine.specs.TokenMachine.{IsBoundTo}
 use Rattle.vc_machine.specs.View.{MayDraw, nothing, begun, Inside, without_mark, with_mark, StandsFor, TokenView, Bindings}
 use Rattle.vc_machine.specs.Private.Laws.{IsLimit, AllFit}
-use Rattle.vc_machine.proofs.Update.{changed, kept, put-same, put-other}
+use Rattle.vc_machine.proofs.Update.{changed, kept}
 use Rattle.vc_machine.proofs.Heads.{no_group, longer, same_switch}
-use Rattle.vc_machine.proofs.TokenCover.{leaves_one}
-use Rattle.vc_machine.proofs.Ahead.{all_there, in_part, WholeGot, marked, coming, WholeAt, From, queued, bound, Sending, Ahead, KeepsBound, bound_at, each_kept, got_begins, within_body, within_bytes}
+use Rattle.vc_machine.proofs.Cover.{body_same}
+use Rattle.vc_machine.proofs.Ahead.{all_there, in_part, WholeGot, marked, coming, WholeAt, From, queued, bound, Sending, Ahead, KeepsBound, bound_at, each_kept, got_begins, within_body, within_bytes, no_bytes}
+use Rattle.vc_machine.proofs.Basics.{put-same, put-other}
 
 pub record Starts (net : Net) (Fits : ℕ → List ℕ → Type 0) (t : Tokens) (w : ℕ) : Type 0 where
   pub ahead : Ahead net Fits t
@@ -79,20 +80,16 @@ pub record Found (net : Net) (Fits : ℕ → List ℕ → Type 0) (t : Tokens) (
   pub leaves : BodyLeaves net n whole w out_body
   pub fits : Fits w out_body
 
-no_byte : (passed : List ℕ) (xs : List Token) → bytes passed ++ xs ≡ [] → passed ≡ []
-no_byte [] xs e = refl
-no_byte (b ∷ passed) xs e = absurd (cc)
-
 found_line : (net : Net) (Fits : ℕ → List ℕ → Type 0) (limit : ℕ) (t : Tokens) (full : ℕ → List ℕ) (v w n i : ℕ) (d : List ℕ) (drawn : Option ℕ) (passed : List ℕ) (line : List Packet) →
     IsLimit net Fits limit → net.far v ≡ AtSwitch n i → MayDraw net (net.far v) drawn → BodyLeaves net n (t.receiver v).got w d →
     (t.receiver v).mark ≡ None → (passed ≡ [] → ⊥) → (t.receiver v).got ≡ spelled (behind drawn []) ++ passed →
     Spells (bytes passed ++ ((t.receiver v).buffer ++ without_fcts (t.wire v))) line (t.sender v).sent → AllByRecursion (λ p. Fits v p.body) line →
     ((t.sender v).sent ≡ []) ⊎ Sending net Fits t full v → Found net Fits t full v w n
 found_line net Fits limit t full v w n i d drawn passed [] limits far may group none some got_is line fit (inl empty) =
-    absurd (some (no_byte passed _ (line ∙ ap bytes empty)))
+    absurd (some (no_bytes passed _ (line ∙ ap bytes empty)))
 found_line net Fits limit t full v w n i d drawn passed [] limits far may group none some got_is line fit (inr s) =
     let x = within_bytes passed _ (t.sender v).sent line in
-    let nonempty : (t.sender v).sent ≡ [] → ⊥ = λ e. some (no_byte passed _ (line ∙ ap bytes e)) in
+    let nonempty : (t.sender v).sent ≡ [] → ⊥ = λ e. some (no_bytes passed _ (line ∙ ap bytes e)) in
     let h = spelled (behind drawn []) in
     let same : (t.receiver v).got ++ (x.0 ++ s.more) ≡ h ++ full v =
     ap (λ k. k ++ (x.0 ++ s.more)) got_is ∙ append_assoc h passed (x.0 ++ s.more)
@@ -162,7 +159,7 @@ switch_next net Fits waiting t n v w d a bindings h (bound n2 v2 link b real far
     let x = got_begins net (net.far v) (t.sender v).sent ((t.receiver v).buffer ++ without_fcts (t.wire v)) (t.receiver v).got (t.receiver v).mark (a.full v) b (begins net Fits t a v) whole2 in
     let sw : n2 ≡ n = same_switch n2 link n h.link (sym far ∙ ap net.far same ∙ h.far) in
     let l : BodyLeaves net n b w (a.full w) = subst (λ k. BodyLeaves net k b w (a.full w)) sw leaves in
-    (x.0, leaves_one net n b w (a.full w) (d ++ x.0) l (subst (λ k. BodyLeaves net n k w (d ++ x.0)) (sym x.1) (longer net n (t.receiver v).got x.0 w d h.leaves)))
+    (x.0, body_same net n b w (a.full w) (d ++ x.0) l (subst (λ k. BodyLeaves net n k w (d ++ x.0)) (sym x.1) (longer net n (t.receiver v).got x.0 w d h.leaves)))
 
 marked_only : (net : Net) (p : Port) (sent : List ℕ) (xs : List Token) (got : List ℕ) (mark : Option Mark) (full b : List ℕ) (m : Mark) → mark ≡ Some m →
     WholeGot net p sent xs got mark full b → b ≡ got
@@ -179,4 +176,4 @@ switch_last net Fits waiting t n v w d m a bindings h mark (bound n2 v2 link b r
     let whole2 : WholeAt net t a.full v b = subst (λ k. WholeAt net t a.full k b) same whole in
     let x = marked_only net (net.far v) (t.sender v).sent ((t.receiver v).buffer ++ without_fcts (t.wire v)) (t.receiver v).got (t.receiver v).mark (a.full v) b m mark whole2 in
     let sw : n2 ≡ n = same_switch n2 link n h.link (sym far ∙ ap net.far same ∙ h.far) in
-    leaves_one net n (t.receiver v).got w (a.full w) d (subst (λ k. BodyLeaves net n k w (a.full w)) x (subst (λ k. BodyLeaves net k b w (a.full w)) sw leaves)) h.leaves
+    body_same net n (t.receiver v).got w (a.full w) d (subst (λ k. BodyLeaves net n k w (a.full w)) x (subst (λ k. BodyLeaves net k b w (a.full w)) sw leaves)) h.leaves

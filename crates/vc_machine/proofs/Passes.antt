@@ -13,11 +13,12 @@ use Rattle.vc_machine.specs.Links.{Receiver, Tokens, set_receiver}
 use Rattle.vc_machine.specs.TokenMachine.{with_header, keeps, loses, Passes, node_byte, node_mark, switch_byte, switch_mark}
 use Rattle.vc_machine.specs.View.{Got, nothing, without_mark, with_mark, stream, TokenView, Bindings, AtMostTwo, stays, moves, enters_bound}
 use Rattle.vc_machine.specs.Laws.{Ranges}
-use Rattle.vc_machine.proofs.Spellings.{bytes-append}
-use Rattle.vc_machine.proofs.Update.{changed, kept, put-same, put-other}
+use Rattle.vc_tokens.proofs.Spellings.{bytes-append}
+use Rattle.vc_machine.proofs.Update.{changed, kept}
 use Rattle.vc_machine.proofs.TokenNodes.{reaches_alike}
 use Rattle.vc_machine.proofs.ViewChanges.{view_at, view_received, view_kept, same_nodes, framed_view, front_packet}
 use Rattle.vc_machine.proofs.Heads.{headed_is, got_headed, got_at_node, inside_node, inside_unmarked, seen_bound, group_with_header, same_switch}
+use Rattle.vc_machine.proofs.Basics.{put-same, put-other}
 
 -- a byte moved on stays in the stream
 byte_moved : (bs : List ℕ) (b : ℕ) (rest ts : List Token) → bytes (bs ++ b ∷ []) ++ (rest ++ ts) ≡ bytes bs ++ (Byte b ∷ rest ++ ts)

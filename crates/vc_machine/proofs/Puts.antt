@@ -9,7 +9,7 @@ use Rattle.vc_machine.specs.Links.{Tokens, set_receiver}
 use Rattle.vc_switch.specs.Waiting.{Waiting}
 use Rattle.vc_machine.specs.TokenMachine.{put_byte, put_mark, IsBoundTo, released, Puts, node_byte, node_mark, switch_byte, switch_mark, Binds}
 use Rattle.vc_machine.specs.View.{nothing, Inside, without_mark, with_mark, stream, TokenView, AtMostTwo, stays, moves}
-use Rattle.vc_machine.proofs.Spellings.{byte_spelled, mark_spelled}
+use Rattle.vc_tokens.proofs.Spellings.{byte_spelled, mark_spelled}
 use Rattle.vc_machine.proofs.Update.{changed, kept}
 use Rattle.vc_machine.proofs.ViewChanges.{view_at, view_received, view_kept, wire_longer}
 use Rattle.vc_machine.proofs.Heads.{inside_marked, seen_bound}

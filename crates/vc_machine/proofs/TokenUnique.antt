@@ -9,8 +9,8 @@ use Rattle.vc_machine.specs.Machine.{State, Input}
 use Rattle.vc_tokens.specs.Tokens.{Token, EndMark, bytes, spelling, spellings, Spells}
 use Rattle.vc_machine.specs.Links.{Tokens}
 use Rattle.vc_machine.specs.View.{Got, nothing, begun, Inside, without_mark, with_mark, stream, TokenView}
-use Rattle.vc_machine.proofs.Spellings.{first_packet}
-use Rattle.vc_machine.proofs.Heads.{node_got, inside_unmarked, inside_marked}
+use Rattle.vc_tokens.proofs.Spellings.{first_packet}
+use Rattle.vc_machine.proofs.Heads.{node_got, inside_unmarked, inside_marked, no_header}
 
 pub spells_one : (ts : List Token) (ps qs : List Packet) (rest : List ℕ) → Spells ts ps rest → Spells ts qs rest → ps ≡ qs
 spells_one ts [] [] rest h k = refl
@@ -36,15 +36,11 @@ behind_one (Some i) (Some v) (Some x) a b h k same = cc
 behind_one (Some i) (Some v) None a b h k same = absurd k
 behind_one (Some i) None e a b h k same = absurd h
 
-none_passed : (d : Option ℕ) (a : List ℕ) → [] ≡ spelled (behind d []) ++ a → a ≡ []
-none_passed None a e = sym e
-none_passed (Some v) a e = absurd (cc)
-
 got_one : (net : Net) (p : Port) (got a b : List ℕ) → Got net p got a → Got net p got b → a ≡ b
 got_one net (AtNode n i) got a b h k = sym (node_got net (AtNode n i) n i got a refl h) ∙ node_got net (AtNode n i) n i got b refl k
 got_one net (AtSwitch n i) got a b (nothing none none2) (nothing none3 none4) = none2 ∙ sym none4
-got_one net (AtSwitch n i) got a b (nothing none none2) (begun d may some e) = none2 ∙ sym (none_passed d b (sym none ∙ e))
-got_one net (AtSwitch n i) got a b (begun d may some e) (nothing none none2) = none_passed d a (sym none ∙ e) ∙ sym none2
+got_one net (AtSwitch n i) got a b (nothing none none2) (begun d may some e) = none2 ∙ sym (no_header d b (sym none ∙ e))
+got_one net (AtSwitch n i) got a b (begun d may some e) (nothing none none2) = no_header d a (sym none ∙ e) ∙ sym none2
 got_one net (AtSwitch n i) got a b (begun d may some e) (begun d2 may2 some2 e2) = behind_one ((net.switch n).random i) d d2 a b may may2 (sym e ∙ e2)
 
 abbrev SameInside : List ℕ → List ℕ → Input → Input → Type 0

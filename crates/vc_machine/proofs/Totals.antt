@@ -2,7 +2,8 @@
 use Rattle.std.proofs.Common.{◌≡◌, ℕ, zero, suc, ◌+◌, ◌≤◌, ◌<◌, inl, inr, refl, sym, ap, subst, ◌∙◌, arith}
 use Rattle.std.proofs.lemmas.Bool.{cases_eq}
 use Rattle.vc_packets.specs.Functions.{put}
-use Rattle.vc_machine.proofs.Update.{Changed, put-same, put-other}
+use Rattle.vc_machine.proofs.Update.{Changed}
+use Rattle.vc_machine.proofs.Basics.{put-same, put-other}
 
 abbrev pub total : ℕ → (ℕ → ℕ) → ℕ
 total zero f = 0

@@ -1,13 +1,9 @@
 -- Functions changed at one argument.
-use Rattle.std.proofs.Common.{◌≡◌, ℕ, inl, inr, nat_eq, refl, sym, subst, eq-eqb, ne_eqb}
-use Rattle.std.proofs.lemmas.Bool.{cases_eq, cond-true, cond-false}
+use Rattle.std.proofs.Common.{◌≡◌, ℕ, inl, inr, refl, sym, subst}
+use Rattle.std.proofs.lemmas.Bool.{cases_eq}
 use Rattle.vc_packets.specs.Functions.{put}
-
-pub put-same : {X : Type 0} (f : ℕ → X) (i : ℕ) (x : X) → put f i x i ≡ x
-put-same f i x = cond-true (nat_eq i i) x (f i) (eq-eqb i i refl)
-
-pub put-other : {X : Type 0} (f : ℕ → X) (i : ℕ) (x : X) (j : ℕ) → (j ≡ i → ⊥) → put f i x j ≡ f j
-put-other f i x j ne = cond-false (nat_eq j i) x (f j) (ne_eqb j i ne)
+use Rattle.vc_machine.proofs.Basics as elsewhere
+use Rattle.vc_machine.proofs.Basics.{put-same, put-other}
 
 -- g is f but at i, where it is x
 pub record Changed {X : Type 0} (i : ℕ) (f g : ℕ → X) (x : X) : Type 0 where
@@ -33,15 +29,7 @@ every P i f f' g g' h h' k k' m m' a b c d e cf cg ch ck cm all here j =
     ]
 
 pub every_put : {X : Type 0} (P : ℕ → X → Type 0) (f : ℕ → X) (i : ℕ) (x : X) → P i x → ((j : ℕ) → P j (f j)) → (j : ℕ) → P j (put f i x j)
-every_put P f i x here others j =
-    elim (cases_eq j i) [
-      | inl e ↦ subst (λ k. P k (put f i x k)) (sym e) (subst (P i) (sym (put-same f i x)) here)
-      | inr ne ↦ subst (P j) (sym (put-other f i x j ne)) (others j)
-    ]
+every_put P f i x here others = elsewhere.every_put P f i x here (λ j ne. others j)
 
 pub every_put₂ : {X Y : Type 0} (P : ℕ → X → Y → Type 0) (f : ℕ → X) (g : ℕ → Y) (i : ℕ) (x : X) (y : Y) → P i x y → ((j : ℕ) → P j (f j) (g j)) → (j : ℕ) → P j (put f i x j) (put g i y j)
-every_put₂ P f g i x y here others j =
-    elim (cases_eq j i) [
-      | inl e ↦ subst (λ k. P k (put f i x k) (put g i y k)) (sym e) (subst (λ u. P i u (put g i y i)) (sym (put-same f i x)) (subst (λ u. P i x u) (sym (put-same g i y)) here))
-      | inr ne ↦ subst (λ u. P j u (put g i y j)) (sym (put-other f i x j ne)) (subst (λ u. P j (f j) u) (sym (put-other g i y j ne)) (others j))
-    ]
+every_put₂ P f g i x y here others = elsewhere.every_put₂ P f g i x y here (λ j ne. others j)

@@ -8,7 +8,7 @@ use Rattle.vc_credit.specs.Ends.{Sender}
 use Rattle.vc_machine.specs.Links.{Receiver, Tokens, set_sender, set_wire, set_receiver}
 use Rattle.vc_machine.specs.TokenMachine.{arrive, Takes, Grants}
 use Rattle.vc_machine.specs.View.{Inside, stream, StandsFor, TokenView}
-use Rattle.vc_machine.proofs.Spellings.{without_fcts-append, FirstPacket, first_packet}
+use Rattle.vc_tokens.proofs.Spellings.{without_fcts-append, FirstPacket, first_packet}
 use Rattle.vc_machine.proofs.Update.{Changed, changed, kept, every}
 use Rattle.vc_machine.proofs.TokenNodes.{SameNodes, Framed}
 

@@ -13,8 +13,9 @@ use Rattle.vc_tokens.specs.Tokens.{Token, Byte, Fct, EndMark}
 use Rattle.vc_machine.specs.Paths.{Port, AtNode, AtSwitch, Net}
 use Rattle.vc_machine.specs.Machine.{WayState, ChanState}
 use Rattle.vc_machine.specs.Links.{Receiver, Tokens}
-use Rattle.vc_machine.proofs.Update.{changed, kept, put-same, put-other}
+use Rattle.vc_machine.proofs.Update.{changed, kept}
 use Rattle.vc_machine.proofs.Totals.{total, total_le, total_same, total_less, total_put, total_changed}
+use Rattle.vc_machine.proofs.Basics.{put-same, put-other}
 
 -- Weights
 

@@ -9,7 +9,8 @@ use Rattle.vc_machine.specs.Machine as net
 use Rattle.vc_machine.specs.Links.{Tokens}
 use Rattle.vc_machine.specs.PacketsOfTokens.{seen}
 use Rattle.vc_machine.specs.TokenMachine as tok
-use Rattle.vc_machine.proofs.Still.{taken_whole}
+use Rattle.vc_machine.proofs.Standing.{taken_whole}
+use Rattle.vc_machine.proofs.Ports.{switch_same, not_both}
 use Rattle.vc_switch.specs.Waiting.{Wormhole}
 use Rattle.vc_switch.specs.Switch as switch
 use Rattle.vc_switch.specs.Switch.{Switch, Input, with_header, passes_byte, drops_byte, passes_mark, loses}
@@ -28,15 +29,6 @@ use Rattle.vc_network.proofs.TokenViews.{NodeEnd, SwitchEnd, SameReceiver, carri
 use Rattle.vc_network.proofs.Steps.{Good}
 use Rattle.vc_network.proofs.SwitchLinks.{has_group, group_back, header_same, bound_some, bound_back}
 use Rattle.vc_network.proofs.Wires.{one_near}
-
-node_same : (n m i l : ℕ) → AtNode n i ≡ AtNode m l → n ≡ m
-node_same n m i l e = cc
-
-switch_same : (n m i l : ℕ) → AtSwitch n i ≡ AtSwitch m l → (n ≡ m) × (i ≡ l)
-switch_same n m i l e = (cc, cc)
-
-not_both : (n i k l : ℕ) → AtNode n i ≡ AtSwitch k l → ⊥
-not_both n i k l e = cc
 
 -- what leaves by a way of the network leaves by its link
 pub body_back : (plan : Plan) (k o w : ℕ) (b d : List ℕ) → near plan w ≡ AtSwitch k o → net.BodyLeaves (net_of plan) k b w d → switch.BodyLeaves (switch_plan plan k) b o d

@@ -16,7 +16,7 @@ use Rattle.vc_packets.specs.Functions.{put}
 use Rattle.vc_machine.proofs.Basics.{header_rest_same}
 use Rattle.vc_machine.proofs.NodeSteps.{same_piece, same_ack, not_both}
 use Rattle.vc_packets.proofs.PieceLists.{pieces_same}
-use Rattle.vc_machine.proofs.OneStep.{body_same}
+use Rattle.vc_machine.proofs.Cover.{body_same}
 use Rattle.vc_vcp.specs.Carrier.{Carrier, Ends, set_out, set_in, enqueue, End as NodeEnd}
 use Rattle.vc_vcp.specs.Steps as node
 use Rattle.vc_switch.specs.Switch as switch

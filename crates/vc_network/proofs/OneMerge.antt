@@ -1,5 +1,5 @@
 -- There is one merge of given runs.
-use Rattle.std.proofs.Common.{◌≡◌, ℕ, if◌then◌else◌, List, [], ◌∷◌, ◌++◌, refl, sym, ap, ap₂, ◌∙◌, subst, inl, inr, arith, eq-eqb}
+use Rattle.std.proofs.Common.{◌≡◌, ℕ, if◌then◌else◌, List, [], ◌∷◌, refl, sym, ap, ap₂, ◌∙◌, subst, inl, inr, arith, eq-eqb}
 use Rattle.std.specs.List.{AllByRecursion}
 use Rattle.std.proofs.lemmas.Bool.{ne_eqb, cases_eq}
 use Rattle.vc_network.specs.LocalRun.{Stamped}
@@ -64,7 +64,3 @@ one_merge (m ∷ ms) (n ∷ ns) om on p =
 -- given runs have one merge
 pub IsMerge-unique : {A : Type 0} (runs : ℕ → List (Stamped A)) (ms ns : List (Made A)) → IsMerge runs ms → IsMerge runs ns → ms ≡ ns
 IsMerge-unique runs ms ns m n = one_merge ms ns m.ordered n.ordered (λ actor. m.parts actor ∙ sym (n.parts actor))
-
-pub both_lists : {X : Type 0} (P : X → Type 0) (xs ys : List X) → AllByRecursion P xs → AllByRecursion P ys → AllByRecursion P (xs ++ ys)
-both_lists P [] ys h k = k
-both_lists P (x ∷ xs) ys h k = (h.0, both_lists P xs ys h.1 k)

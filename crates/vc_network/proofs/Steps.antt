@@ -50,10 +50,10 @@ runs_joined net waiting t u v [] fs h k = subst (λ x. TokenRun net back waiting
 runs_joined net waiting t u v (e ∷ es) fs h k = (h.0, h.1, runs_joined net waiting h.0 u v es fs h.2 k)
 
 -- what may be done in store and forward may be done in wormhole
-bound_wormhole : (net : Net) (waiting : Waiting) (t : Tokens) (n v w : ℕ) (d : List ℕ) → tok.IsBoundTo net waiting t n v w d → tok.IsBoundTo net Wormhole t n v w d
+pub bound_wormhole : (net : Net) (waiting : Waiting) (t : Tokens) (n v w : ℕ) (d : List ℕ) → tok.IsBoundTo net waiting t n v w d → tok.IsBoundTo net Wormhole t n v w d
 bound_wormhole net waiting t n v w d h = record { real = h.real; link = h.link; far = h.far; bound = h.bound; leaves = h.leaves; may_go = tt }
 
-puts_wormhole : (net : Net) (waiting : Waiting) (t : Tokens) (w : ℕ) (u : Tokens) → tok.Puts net waiting t w u → tok.Puts net Wormhole t w u
+pub puts_wormhole : (net : Net) (waiting : Waiting) (t : Tokens) (w : ℕ) (u : Tokens) → tok.Puts net waiting t w u → tok.Puts net Wormhole t w u
 puts_wormhole net waiting t w u (tok.node_byte n i p rest b more near front is after) = tok.node_byte n i p rest b more near front is after
 puts_wormhole net waiting t w u (tok.node_mark n i p rest near front is after) = tok.node_mark n i p rest near front is after
 puts_wormhole net waiting t w u (tok.switch_byte n v d b more bound is after) = tok.switch_byte n v d b more (bound_wormhole net waiting t n v w d bound) is after

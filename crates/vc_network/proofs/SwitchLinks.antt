@@ -1,5 +1,6 @@
 -- A step of a switch is a step of the token machine of ways.
 use Rattle.std.proofs.Common.{◌≡◌, ℕ, suc, ◌+◌, ◌-◌, ◌<◌, ◌≤◌, List, [], ◌∷◌, ◌++◌, length, Option, Some, None, refl, sym, ap, subst, ◌∙◌, arith}
+use Rattle.std.proofs.lemmas.Option.{same_Some, none-some}
 use Rattle.vc_machine.specs.Paths.{Port, AtNode, AtSwitch}
 use Rattle.vc_machine.specs.Machine as net
 use Rattle.vc_packets.specs.Functions.{put}
@@ -12,6 +13,7 @@ use Rattle.vc_machine.specs.TokenMachine as tok
 use Rattle.vc_switch.specs.Waiting.{Waiting, MayGo}
 use Rattle.vc_machine.specs.TokenMachine.{arrive, put_byte, put_mark}
 use Rattle.vc_machine.proofs.Update.{Changed, changed, kept}
+use Rattle.vc_machine.proofs.Ports.{switch_same}
 use Rattle.vc_credit.specs.Ends as link_ends
 use Rattle.vc_vcp.specs.Links.{Vcp}
 use Rattle.vc_switch.specs.Switch as switch
@@ -57,25 +59,16 @@ header_same plan k l x r e = λ i. headed (drawn ((switch_plan plan k).random l)
 put_own : {X : Type 0} (f : ℕ → X) (i : ℕ) → f ≡ put f i (f i)
 put_own f i = λ j m. sym (every_put (λ v y. y ≡ f v) f i (f i) refl (λ v ne. refl) m) j
 
-some_same : (a b : ℕ) → Some a ≡ Some b → a ≡ b
-some_same a b e = cc
-
-none_some : (a : ℕ) → None ≡ Some a → ⊥
-none_some a e = cc
-
-switch_same : (j k l o : ℕ) → AtSwitch j l ≡ AtSwitch k o → (j ≡ k) × (l ≡ o)
-switch_same j k l o e = (cc, cc)
-
 bound_none : (plan : Plan) (k : ℕ) (x b : Option ℕ) → SameBound plan k x b → x ≡ None → b ≡ None
 bound_none plan k None b h e = h
-bound_none plan k (Some l) b h e = absurd (none_some l (sym e))
+bound_none plan k (Some l) b h e = absurd (none-some l (sym e))
 
 pub bound_some : (plan : Plan) (k l : ℕ) (x b : Option ℕ) → SameBound plan k x b → x ≡ Some l → (out : ℕ) × (b ≡ Some out) × IsOutOf plan out (AtSwitch k l)
 bound_some plan k l x b h e = subst (λ z. SameBound plan k z b) e h
 
 pub bound_back : (plan : Plan) (k out : ℕ) (x b : Option ℕ) → SameBound plan k x b → b ≡ Some out → (l : ℕ) × (x ≡ Some l) × IsOutOf plan out (AtSwitch k l)
-bound_back plan k out None b h e = absurd (none_some out (sym h ∙ e))
-bound_back plan k out (Some l) b h e = (l, refl, subst (λ z. IsOutOf plan z (AtSwitch k l)) (some_same h.0 out (sym h.1 ∙ e)) h.2)
+bound_back plan k out None b h e = absurd (none-some out (sym h ∙ e))
+bound_back plan k out (Some l) b h e = (l, refl, subst (λ z. IsOutOf plan z (AtSwitch k l)) (same_Some h.0 out (sym h.1 ∙ e)) h.2)
 
 module _ (plan : Plan) (waiting : Waiting) (acc : IsAccepted plan) (vs : ℕ → Vcp) (sw : ℕ → Switch) (lines : ℕ → List Token) (t : Tokens) (s : Shows plan vs sw lines t) (k : ℕ) where
   abbrev x : ℕ → Input
@@ -214,7 +207,7 @@ module _ (plan : Plan) (waiting : Waiting) (acc : IsAccepted plan) (vs : ℕ →
       }
     where
       taken : (p : Port) (v : ℕ) → v < ways plan → (t.receiver v).bound ≡ Some (way_from plan (AtSwitch k o)) → SameReceiver plan vs sw p (t.receiver v) → ⊥
-      taken (AtNode n j) v real is e = none_some (way_from plan (AtSwitch k o)) (sym e.bound ∙ is)
+      taken (AtNode n j) v real is e = none-some (way_from plan (AtSwitch k o)) (sym e.bound ∙ is)
       taken (AtSwitch m j) v real is e =
           let q = bound_back plan m (way_from plan (AtSwitch k o)) ((sw m).input j).bound (t.receiver v).bound e.bound is in
           let same = switch_same m k q.0 o (sym q.2.1 ∙ (out_way plan k o (x l).got h.body acc h.group).1) in

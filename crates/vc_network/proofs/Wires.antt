@@ -1,18 +1,13 @@
 -- A way that leaves by a port is found by the port.
 use Rattle.std.proofs.Common.{◌≡◌, ℕ, zero, suc, ◌+◌, ◌*◌, ◌/◌, ◌%◌, ◌<◌, ◌⊎◌, inl, inr, Bool, true, false, ◌&&◌, List, [], ◌∷◌, length, get_or, refl, sym, ap, ◌∙◌, arith, if◌then◌else◌, ◌==◌, eq-eqb, eqb-true, ne_eqb, not}
-use Rattle.std.proofs.lemmas.Bool.{cases_eq}
+use Rattle.std.proofs.lemmas.Bool.{cases_eq, and_parts}
 use Rattle.vc_machine.proofs.Links.{not_same}
 use Rattle.vc_machine.specs.Paths.{Port, AtNode, AtSwitch}
 use Rattle.vc_network.specs.Plan.{Plan, Wire, ways, near, wire, port_of, port_eq, way_among, way_from, far, IsOutOf, IsWired, IsAccepted}
 
-both : (a b : Bool) → (a && b) ≡ true → (a ≡ true) × (b ≡ true)
-both true true e = (refl, refl)
-both true false e = absurd (cc)
-both false b e = absurd (cc)
-
 same_is : (p q : Port) → port_eq p q ≡ true → p ≡ q
-same_is (AtNode n i) (AtNode m j) e = let r = both (n == m) (i == j) e in (λ k. AtNode (eqb-true n m r.0 k) (eqb-true i j r.1 k))
-same_is (AtSwitch n i) (AtSwitch m j) e = let r = both (n == m) (i == j) e in (λ k. AtSwitch (eqb-true n m r.0 k) (eqb-true i j r.1 k))
+same_is (AtNode n i) (AtNode m j) e = let r = and_parts (n == m) (i == j) e in (λ k. AtNode (eqb-true n m r.0 k) (eqb-true i j r.1 k))
+same_is (AtSwitch n i) (AtSwitch m j) e = let r = and_parts (n == m) (i == j) e in (λ k. AtSwitch (eqb-true n m r.0 k) (eqb-true i j r.1 k))
 same_is (AtNode n i) (AtSwitch m j) e = absurd (cc)
 same_is (AtSwitch n i) (AtNode m j) e = absurd (cc)
 

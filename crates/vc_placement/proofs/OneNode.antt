@@ -35,29 +35,29 @@ use Rattle.vc_accepted.proofs.Processes.{named}
 use Rattle.vc_tokens.specs.Tokens.{Token}
 
 -- what variables of these kinds hold at first
-abbrev empty : List ValueKind → Store
+abbrev pub empty : List ValueKind → Store
 empty kinds = store (map empty_of kinds)
 
-empty_first : (ks ls : List ValueKind) (v : ℕ) → v < length ks → empty (ks ++ ls) v ≡ empty ks v
+pub empty_first : (ks ls : List ValueKind) (v : ℕ) → v < length ks → empty (ks ++ ls) v ≡ empty ks v
 empty_first [] ls v h = absurd (omega arith)
 empty_first (k ∷ ks) ls zero h = refl
 empty_first (k ∷ ks) ls (suc v) h = empty_first ks ls v (omega arith)
 
-empty_second : (ks ls : List ValueKind) (v : ℕ) → empty (ks ++ ls) (length ks + v) ≡ empty ls v
+pub empty_second : (ks ls : List ValueKind) (v : ℕ) → empty (ks ++ ls) (length ks + v) ≡ empty ls v
 empty_second [] ls v = let e : 0 + v ≡ v = omega arith in ap (empty ls) e
 empty_second (k ∷ ks) ls v = let e : length (k ∷ ks) + v ≡ suc (length ks + v) = omega arith in ap (empty ((k ∷ ks) ++ ls)) e ∙ empty_second ks ls v
 
-kinds_append : (a b : List NodeVariable) → kinds_of (a ++ b) ≡ kinds_of a ++ kinds_of b
+pub kinds_append : (a b : List NodeVariable) → kinds_of (a ++ b) ≡ kinds_of a ++ kinds_of b
 kinds_append a b = map-append (λ (v : NodeVariable). v.kind) a b
 
-kinds_length : (a : List NodeVariable) → length (kinds_of a) ≡ length a
+pub kinds_length : (a : List NodeVariable) → length (kinds_of a) ≡ length a
 kinds_length a = length-map a (λ (v : NodeVariable). v.kind)
 
 -- from the k-th variable on stand those of these nodes, empty
-abbrev Holds : Store → ℕ → List NodePlan → Type 0
+abbrev pub Holds : Store → ℕ → List NodePlan → Type 0
 Holds big k ns = (v : ℕ) → v < length (kinds_of (all_vars ns)) → big (k + v) ≡ empty (kinds_of (all_vars ns)) v
 
-holds_first : (big : Store) (k : ℕ) (n : NodePlan) (ns : List NodePlan) → Holds big k (n ∷ ns) → (v : ℕ) → v < length n.vars → big (k + v) ≡ empty (kinds_of n.vars) v
+pub holds_first : (big : Store) (k : ℕ) (n : NodePlan) (ns : List NodePlan) → Holds big k (n ∷ ns) → (v : ℕ) → v < length n.vars → big (k + v) ≡ empty (kinds_of n.vars) v
 holds_first big k n ns h v l =
     let e = kinds_append n.vars (all_vars ns) in
     let a = ap length e in
@@ -65,7 +65,7 @@ holds_first big k n ns h v l =
     let c = kinds_length n.vars in
     h v (omega arith) ∙ ap (λ z. empty z v) e ∙ empty_first (kinds_of n.vars) (kinds_of (all_vars ns)) v (omega arith)
 
-holds_rest : (big : Store) (k : ℕ) (n : NodePlan) (ns : List NodePlan) → Holds big k (n ∷ ns) → Holds big (k + length n.vars) ns
+pub holds_rest : (big : Store) (k : ℕ) (n : NodePlan) (ns : List NodePlan) → Holds big k (n ∷ ns) → Holds big (k + length n.vars) ns
 holds_rest big k n ns h v l =
     let e = kinds_append n.vars (all_vars ns) in
     let a = ap length e in
@@ -118,10 +118,10 @@ module _ (channels : ℕ) (big : Store) (ks : List (ℕ × Comm)) (ends : ℕ �
   abreast i k [] (part q qs) a h f z = absurd a
   abreast i k (n ∷ ns) no_parts a h f z = absurd a
 
-module _ (p one : Plan) (s : Network (Actor Process) Token) (hs : List Atomic) (acc : IsAccepted p) (on : IsOnOneNode p one) (told : IsLinearizationOf p s hs) where
-  same_node : (a b : Node Process) → IsNode a ≡ IsNode b → a ≡ b
-  same_node a b e = cc
+pub same_node : (a b : Node Process) → IsNode a ≡ IsNode b → a ≡ b
+same_node a b e = cc
 
+module _ (p one : Plan) (s : Network (Actor Process) Token) (hs : List Atomic) (acc : IsAccepted p) (on : IsOnOneNode p one) (told : IsLinearizationOf p s hs) where
   record Part (n : ℕ) : Type 0 where
     pub end : End
     pub trace : n < length p.nodes → Trace (written (node_plan p n).process) (begin_of p n).state.store (by n (all_comms hs)) end

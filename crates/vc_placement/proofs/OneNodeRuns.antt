@@ -72,10 +72,10 @@ below (y ∷ ys) (suc k) x h = let l = below ys k x h in omega arith
 -- ---- views
 
 -- a channel's part of a list of communications
-abbrev of_channel : ℕ → List Comm → List rendezvous.Comm
+abbrev pub of_channel : ℕ → List Comm → List rendezvous.Comm
 of_channel c ks = part c (map to_channel ks)
 
-without_is : (c : ℕ) (ks : List (ℕ × Comm)) → of_channel c (without_nodes ks) ≡ on c ks
+pub without_is : (c : ℕ) (ks : List (ℕ × Comm)) → of_channel c (without_nodes ks) ≡ on c ks
 without_is c [] = refl
 without_is c ((n, k) ∷ ks) = ap (λ r. if nat_eq (to_channel k).0 c then (to_channel k).1 ∷ r else r) (without_is c ks)
 
@@ -85,10 +85,10 @@ are_exchanges (Exchange n m c x y ∷ hs) h = (refl, h.0, refl, are_exchanges hs
 are_exchanges (Stop n c ∷ hs) h = are_exchanges hs h.1
 
 -- what an exchange leads to on a channel, which is the one that it is on or another
-abbrev If : Bool → rendezvous.Comm → List rendezvous.Comm → List rendezvous.Comm
+abbrev pub If : Bool → rendezvous.Comm → List rendezvous.Comm → List rendezvous.Comm
 If b k l = if b then k ∷ l else l
 
-exchange_shown : (b : Bool) (v u : View) (m n : List ℕ) (l : List rendezvous.Comm) → m ≡ n → DoesAll v (If b (rendezvous.Out m) (If b (rendezvous.In n) (If b rendezvous.Fin l))) u → DoesAll (if b then exchanged v m else v) l u × (b ≡ true → v.stopped ≡ false)
+pub exchange_shown : (b : Bool) (v u : View) (m n : List ℕ) (l : List rendezvous.Comm) → m ≡ n → DoesAll v (If b (rendezvous.Out m) (If b (rendezvous.In n) (If b rendezvous.Fin l))) u → DoesAll (if b then exchanged v m else v) l u × (b ≡ true → v.stopped ≡ false)
 exchange_shown false v u m n l e h = (h, λ q. absurd (cc))
 exchange_shown true v u m n l e (x, (a, is), (y, (got, going, is2), (z, (less, is3), rest))) =
     let same : z ≡ exchanged v m =
@@ -96,7 +96,7 @@ exchange_shown true v u m n l e (x, (a, is), (y, (got, going, is2), (z, (less, i
     ∙ ap (λ (k : List ℕ). record v { offered = v.offered ++ m ∷ []; taken = v.taken ++ k ∷ []; finished = suc v.finished }) (sym e) in
     (subst (λ (w : View). DoesAll w l u) same rest, λ q. sym (ap (λ (w : View). w.stopped) is) ∙ going)
 
-stop_shown : (b : Bool) (v u : View) (l : List rendezvous.Comm) → DoesAll v (If b rendezvous.Stp l) u → DoesAll (if b then record v { stopped = true } else v) l u
+pub stop_shown : (b : Bool) (v u : View) (l : List rendezvous.Comm) → DoesAll v (If b rendezvous.Stp l) u → DoesAll (if b then record v { stopped = true } else v) l u
 stop_shown false v u l h = h
 stop_shown true v u l (w, is, rest) = subst (λ (z : View). DoesAll z l u) is rest
 

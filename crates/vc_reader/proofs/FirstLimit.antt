@@ -5,6 +5,7 @@ use Rattle.std.specs.List.{list_all}
 use Rattle.std.specs.Option.{option_or}
 use Rattle.std.proofs.lemmas.Bool.Decides.{nat_tests}
 use Rattle.std.proofs.lemmas.Option.{slice_get_within}
+use Rattle.std.proofs.lemmas.Bool.{and_parts}
 use Rattle.serde_json.specs.Data.{Data}
 use Rattle.vc_process.specs.declared.process.Process.{Process}
 use Rattle.vc_process.specs.Numbering.{written}
@@ -55,15 +56,11 @@ head_is_named before d x e =
     both_true (is_name x.name) (list_all (λ (v : Variable). is_name v.name) x.vars) (new_is_new (has_name (λ (h : Head). h.name) before) n.0 x.name n.2).lawful
     (list_field_keeps (λ vs. list_all (λ (v : Variable). is_name v.name) vs ≡ true) read_var (λ front c y h r. all_more (λ (v : Variable). is_name v.name) front y h (variable_named front c y r)) word.Vars d x.vars refl q.has_vars)
 
-and_left : (a b : Bool) → (a && b) ≡ true → (a ≡ true) × (b ≡ true)
-and_left true b e = (refl, e)
-and_left false b e = absurd (let c : false ≡ true = e in cc)
-
 nodes_named : (hs : List Head) (ps : List Process) → list_all head_named hs ≡ true → list_all node_names_ok (node_plans hs ps) ≡ true
 nodes_named [] ps e = refl
 nodes_named (h ∷ hs) [] e = refl
 nodes_named (h ∷ hs) (p ∷ ps) e =
-    let r = and_left (head_named h) (list_all head_named hs) e in
+    let r = and_parts (head_named h) (list_all head_named hs) e in
     both_true (head_named h) (list_all node_names_ok (node_plans hs ps)) r.0 (nodes_named hs ps r.1)
 
 -- ---- numbers
@@ -207,7 +204,7 @@ names_there : (n : ℕ) (hs : List Head) (ps : List Process) →
 names_there n [] ps all few = refl
 names_there n (h ∷ hs) [] all few = refl
 names_there n (h ∷ hs) (p ∷ ps) all few =
-    let f = and_left (nat_le (length h.vars) 64) (list_all vars_ok (node_plans hs ps)) few in
+    let f = and_parts (nat_le (length h.vars) 64) (list_all vars_ok (node_plans hs ps)) few in
     both_true (names_fit (written p) (kinds_of h.vars) n) (list_all (λ (x : NodePlan). names_fit (written x.process) (kinds_of x.vars) n) (node_plans hs ps)) (all 0 p refl f.0)
     (names_there n hs ps (λ k q is. all (suc k) q is) f.1)
 

@@ -1,22 +1,11 @@
 -- Numbers in rows.
-use Rattle.std.proofs.Common.{◌≡◌, ℕ, zero, suc, ◌<◌, ◌==◌, ◌&&◌, ◌||◌, Bool, true, false, List, [], ◌∷◌, ◌++◌, length, Some, slice_get, slice_set, refl, sym, ap, ◌∙◌, inl, inr, arith, eq-eqb, ne_eqb}
+use Rattle.std.proofs.Common.{◌≡◌, ℕ, ◌==◌, ◌&&◌, ◌||◌, Bool, true, false, List, [], ◌∷◌, ◌++◌, Some, slice_get, slice_set, refl, sym, ap, ◌∙◌, inl, inr, eq-eqb, ne_eqb}
 use Rattle.std.proofs.lemmas.Bool.{cases_eq}
 use Rattle.std.proofs.lemmas.List.Folds.{list_any-append}
 use Rattle.std.proofs.lemmas.Option.{slice_get_within}
 use Rattle.std.specs.Option.{option_map_or}
 use Rattle.vc_stats.specs.Rows.{is_in}
-
-set_same : {X : Type 0} (xs : List X) (i : ℕ) (y : X) → i < length xs → slice_get (slice_set xs i y) i ≡ Some y
-set_same [] i y h = absurd (omega arith)
-set_same (x ∷ xs) zero y h = refl
-set_same (x ∷ xs) (suc i) y h = set_same xs i y (omega arith)
-
-set_other : {X : Type 0} (xs : List X) (i j : ℕ) (y : X) → (j ≡ i → ⊥) → slice_get (slice_set xs i y) j ≡ slice_get xs j
-set_other [] i j y ne = refl
-set_other (x ∷ xs) zero zero y ne = absurd (ne refl)
-set_other (x ∷ xs) zero (suc j) y ne = refl
-set_other (x ∷ xs) (suc i) zero y ne = refl
-set_other (x ∷ xs) (suc i) (suc j) y ne = set_other xs i j y (λ e. ne (ap suc e))
+use Rattle.vc_switch.proofs.ListWrites.{place-set_same, place-set_other}
 
 or_none : (b c : Bool) → (b || (false && c)) ≡ b
 or_none true c = refl
@@ -36,10 +25,10 @@ pub row_grows : {A : Type 0} (f : A → List ℕ) (rows : List A) (i : ℕ) (r w
     is_in n (in_row f (slice_set rows i w) k) ≡ (is_in n (in_row f rows k) || (i == k && number == n))
 row_grows f rows i r w number there grows k n = elim (cases_eq k i) [
   | inl here ↦ (
-      let new : in_row f (slice_set rows i w) k ≡ f r ++ number ∷ [] = ap (in_row f (slice_set rows i w)) here ∙ ap (λ o. option_map_or f o []) (set_same rows i w (slice_get_within rows i r there)) ∙ grows in
+      let new : in_row f (slice_set rows i w) k ≡ f r ++ number ∷ [] = ap (in_row f (slice_set rows i w)) here ∙ ap (λ o. option_map_or f o []) (place-set_same rows i w (slice_get_within rows i r there)) ∙ grows in
       let old : in_row f rows k ≡ f r = ap (in_row f rows) here ∙ ap (λ o. option_map_or f o []) there in
       ap (is_in n) new ∙ list_any-append (λ m. m == n) (f r) (number ∷ []) ∙ or_one (is_in n (f r)) (number == n)
       ∙ ap (λ b. is_in n (f r) || (b && number == n)) (sym (eq-eqb i k (sym here))) ∙ ap (λ ms. is_in n ms || (i == k && number == n)) (sym old))
-  | inr ne ↦ ap (λ o. is_in n (option_map_or f o [])) (set_other rows i k w ne) ∙ sym (or_none (is_in n (in_row f rows k)) (number == n))
+  | inr ne ↦ ap (λ o. is_in n (option_map_or f o [])) (place-set_other rows i k w ne) ∙ sym (or_none (is_in n (in_row f rows k)) (number == n))
       ∙ ap (λ b. is_in n (in_row f rows k) || (b && number == n)) (sym (ne_eqb i k (λ e. ne (sym e))))
 ]

@@ -2,6 +2,8 @@
 use Rattle.std.proofs.Common.{◌≡◌, ◌≤◌, ◌<◌, ◌+◌, ◌-◌, ◌*◌, ◌^◌, ◌/◌, ◌%◌, ◌==◌, ◌&&◌, nat_lt, ℕ, Bool, true, false, cond, List, [], ◌∷◌, ◌++◌, length, length-append, count_by, append-nil, append_assoc, Option, Some, None, refl, sym, ap, ◌∙◌, subst, arith, eq-eqb, if◌then◌else◌}
 use Rattle.std.proofs.lemmas.List.{length-map}
 use Rattle.std.proofs.lemmas.List.Sums.{count_by-le-length}
+use Rattle.std.proofs.lemmas.Bool.{and_from}
+use Rattle.std.proofs.Math.Bool.{and-false}
 use Rattle.std.specs.Option.{option_to_list}
 use Rattle.vc_accepted.specs.NetworkOf.{network_of, port_at, port_of, wire_of}
 use Rattle.vc_accepted.specs.ActorWays.{link_port}
@@ -32,7 +34,6 @@ use Rattle.vc_stats.specs.Tallies.{counted, is_at}
 use Rattle.vc_stats.specs.declared.packets.Packets.{Packets}
 use Rattle.vc_stats.proofs.Busy.{count_more, one_if}
 use Rattle.vc_stats.proofs.RunStates.{both_eq, by_test}
-use Rattle.vc_stats.proofs.WayRows.{both_true}
 
 -- ---- tokens
 
@@ -158,9 +159,9 @@ port_link : (p : Plan) (port : Port) → spot_there p port.spot ≡ true → por
 port_link p port there = by_spot port.spot port.link there
   where
     by_spot : (s : Spot) (l : ℕ) → spot_there p s ≡ true → port_at s l ≡ link_port p (actor_at (network_of p) (port_at s l)) (link_at (port_at s l))
-    by_spot (Node n) l there = link_is_at p n l (record { spot = Node n; link = l }) there (both_true (n == n) (l == l) (eq-eqb n n refl) (eq-eqb l l refl))
+    by_spot (Node n) l there = link_is_at p n l (record { spot = Node n; link = l }) there (and_from (n == n) (l == l) (eq-eqb n n refl) (eq-eqb l l refl))
     by_spot (Switch i) l there = link_is_at p (length p.nodes + i) l (record { spot = Switch i; link = l }) there
-        (both_true (length p.nodes + i == length p.nodes + i) (l == l) (eq-eqb (length p.nodes + i) (length p.nodes + i) refl) (eq-eqb l l refl))
+        (and_from (length p.nodes + i == length p.nodes + i) (l == l) (eq-eqb (length p.nodes + i) (length p.nodes + i) refl) (eq-eqb l l refl))
 
 -- a way of the plan goes out by the link of the port where it begins
 pub goes_out : (p : Plan) (way : ℕ) → IsAccepted p → way < 2 * length p.wires →
@@ -187,11 +188,7 @@ count_with (Some k) c = with_token k c
 
 -- the event puts no token of a packet
 no_put : (p : Plan) (way : ℕ) (e : Event) → put_in e.act ≡ None → puts_on p way e ≡ false
-no_put p way e none = ap (λ o. e.actor == actor_at (network_of p) (near (network_of p) way) && is_at (link_at (near (network_of p) way)) o) none ∙ and_false (e.actor == actor_at (network_of p) (near (network_of p) way))
-  where
-    and_false : (b : Bool) → (b && false) ≡ false
-    and_false true = refl
-    and_false false = refl
+no_put p way e none = ap (λ o. e.actor == actor_at (network_of p) (near (network_of p) way) && is_at (link_at (near (network_of p) way)) o) none ∙ and-false (e.actor == actor_at (network_of p) (near (network_of p) way))
 
 pub packets_still : (p : Plan) (all : Packets) (es : List Event) (xs : List NetworkState) (e : Event) (y : NetworkState) → ArePacketsOf all p es xs → length es ≡ length xs → put_in e.act ≡ None →
     ArePacketsOf all p (es ++ e ∷ []) (xs ++ y ∷ [])

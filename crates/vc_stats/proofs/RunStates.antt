@@ -2,7 +2,7 @@
 use Rattle.std.proofs.Common.{◌≡◌, ◌≤◌, ◌<◌, ◌*◌, ◌==◌, ◌&&◌, nat_lt, ℕ, zero, suc, Bool, true, false, cond, List, [], ◌∷◌, ◌++◌, length, max, Option, Some, None, refl, sym, ap, ◌∙◌, subst, inl, inr, arith}
 use Rattle.std.proofs.lemmas.Bool.{cases_lt}
 use Rattle.std.proofs.lemmas.Bool.Decides.{nat_tests}
-use Rattle.std.proofs.lemmas.Option.{slice_get_past}
+use Rattle.std.proofs.lemmas.Option.{slice_get_past, same_Some}
 use Rattle.vc_accepted.specs.NetworkOf.{home_in, network_of}
 use Rattle.vc_accepted.specs.Process.{does}
 use Rattle.vc_accepted.proofs.Elements.{made, made_or}
@@ -48,9 +48,6 @@ both_eq a b c d is = grind (arith, nat_tests)
 
 not_eq : (a b c d : ℕ) → a ≡ b → d ≡ c → (a == b && c == d) ≡ false → ⊥
 not_eq a b c d e f is = grind (arith, nat_tests)
-
-pub some_same : (a b : ℕ) → Some a ≡ Some b → a ≡ b
-some_same a b is = cc
 
 -- ---- the times of channels
 
@@ -159,4 +156,4 @@ buffers_hold p old new xs x y e link tokens events are h by now many after = λ 
     (λ held. let own = both_eq k e.actor l link held in
     occupancy_held f xs x y (occupancy_at old k l) tokens events (are k l less) (now ∙ ap (λ j. buffered_in y j link) (sym own.0) ∙ ap (buffered_in y k) (sym own.1)) many)
     (λ failed. occupancy_still f xs x y (occupancy_at old k l) (are k l less) (same_buffer (network_of p) Wormhole does x y e k l h (λ own is.
-    not_eq k e.actor l link (sym own) (some_same link l (sym by ∙ is)) failed))))
+    not_eq k e.actor l link (sym own) (same_Some link l (sym by ∙ is)) failed))))

@@ -1,6 +1,6 @@
 -- The ways of a plan, in the rows of the actors that put tokens on them.
-use Rattle.std.proofs.Common.{◌≡◌, ◌+◌, ◌*◌, ◌/◌, ◌%◌, ◌==◌, ◌&&◌, ◌||◌, ℕ, Bool, true, false, slice_get, Some, refl, sym, ap, ◌∙◌, inl, inr, arith, eq-eqb}
-use Rattle.std.proofs.lemmas.Bool.{cases_eq}
+use Rattle.std.proofs.Common.{◌≡◌, ◌+◌, ◌*◌, ◌/◌, ◌%◌, ◌==◌, ◌&&◌, ◌||◌, ℕ, slice_get, Some, sym, ap, ◌∙◌, inl, inr, arith, eq-eqb}
+use Rattle.std.proofs.lemmas.Bool.{cases_eq, or_left, or_right, and_from}
 use Rattle.vc_accepted.specs.NetworkOf.{network_of, port_of, wire_of}
 use Rattle.vc_accepted.proofs.Elements.{made_at}
 use Rattle.vc_machine.specs.Paths.{AtNode}
@@ -12,18 +12,6 @@ use Rattle.vc_plan.specs.declared.port.Wire.{Wire}
 use Rattle.vc_stats.specs.Peaks.{AreWaysTo}
 use Rattle.vc_stats.specs.Rows.{has}
 use Rattle.vc_stats.specs.declared.rows.Rows.{Rows}
-
-or_first : (a b : Bool) → a ≡ true → (a || b) ≡ true
-or_first true b e = refl
-or_first false b e = absurd (cc)
-
-or_last : (a b : Bool) → b ≡ true → (a || b) ≡ true
-or_last true b e = refl
-or_last false b e = e
-
-pub both_true : (a b : Bool) → a ≡ true → b ≡ true → (a && b) ≡ true
-both_true true b e f = f
-both_true false b e f = absurd (cc)
 
 wire_at : (p : Plan) (n : ℕ) (w : Wire) → slice_get p.wires n ≡ Some w → network.wire (network_of p) n ≡ wire_of w
 wire_at p n w there = made_at wire_of p.wires n (record { one = AtNode 0 0; two = AtNode 0 0 }) w there
@@ -48,10 +36,10 @@ ways_more p n w old mid new a b i j there one two first second before added afte
     let k = actor_at (network_of p) (near (network_of p) way) in
     after k way ∙ elim (cases_eq way (2 * n + 1)) [
       | inl last ↦ (let at : b ≡ k = second ∙ ap (actor_at (network_of p)) (sym (near_two p n way w there last)) in
-          or_last (has mid k way) (b == k && j == way) (both_true (b == k) (j == way) (eq-eqb b k at) (eq-eqb j way (two ∙ sym last))))
-      | inr sooner ↦ or_first (has mid k way) (b == k && j == way) (added k way ∙ elim (cases_eq way (2 * n)) [
+          or_right (has mid k way) (b == k && j == way) (and_from (b == k) (j == way) (eq-eqb b k at) (eq-eqb j way (two ∙ sym last))))
+      | inr sooner ↦ or_left (has mid k way) (b == k && j == way) (added k way ∙ elim (cases_eq way (2 * n)) [
         | inl this ↦ (let at : a ≡ k = first ∙ ap (actor_at (network_of p)) (sym (near_one p n way w there this)) in
-            or_last (has old k way) (a == k && i == way) (both_true (a == k) (i == way) (eq-eqb a k at) (eq-eqb i way (one ∙ sym this))))
-        | inr ne ↦ or_first (has old k way) (a == k && i == way) (before way (omega (arith, less, sooner, ne)))
+            or_right (has old k way) (a == k && i == way) (and_from (a == k) (i == way) (eq-eqb a k at) (eq-eqb i way (one ∙ sym this))))
+        | inr ne ↦ or_left (has old k way) (a == k && i == way) (before way (omega (arith, less, sooner, ne)))
       ])
     ]

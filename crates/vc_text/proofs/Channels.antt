@@ -36,8 +36,3 @@ viewed_more p s vs v c x here less is one =
 
 pub viewed_all : (p : Plan) (s : NetworkState) (vs : List ChannelView) (c : ℕ) → length p.channels ≤ c → map shown vs ≡ channels_from p s 0 (take c p.channels) → map shown vs ≡ channels_of p s
 viewed_all p s vs c h is = is ∙ ap (channels_from p s 0) (all_taken p.channels c h)
-
-pub some_at : {X : Type 0} (xs : List X) (i : ℕ) → i < length xs → (x : X) × (slice_get xs i ≡ Some x)
-some_at [] i h = absurd (omega arith)
-some_at (x ∷ xs) zero h = (x, refl)
-some_at (x ∷ xs) (suc i) h = some_at xs i (omega arith)

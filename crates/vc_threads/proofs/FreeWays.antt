@@ -1,21 +1,14 @@
 -- Each way of an accepted plan can have a ring of its own.
-use Rattle.std.proofs.Common.{◌≡◌, ◌≢◌, ℕ, ◌+◌, ◌<◌, Bool, true, false, not, ◌&&◌, List, length, map, get_or, slice_get, Some, refl, sym, ap, subst, ◌∙◌, inl, inr, arith}
-use Rattle.std.specs.List.{All, Contains, list_all}
-use Rattle.std.proofs.lemmas.Bool.Decides.{nat_tests}
+use Rattle.std.proofs.Common.{◌≡◌, ◌≢◌, ℕ, ◌<◌, Bool, true, false, not, List, length, map, get_or, slice_get, Some, refl, sym, ap, subst, ◌∙◌, inl, inr, arith}
+use Rattle.std.specs.List.{All, Contains}
 use Rattle.std.proofs.lemmas.List.{length-map}
 use Rattle.vc_accepted.specs.ActorWays.{actor_of, is_link}
-use Rattle.vc_accepted.proofs.Limits.{kept}
-use Rattle.vc_accepted.proofs.Elements.{both}
 use Rattle.vc_accepted.proofs.Ports.{one_port_of}
 use Rattle.vc_accepted.proofs.WayPorts.{link_is_at, wired}
 use Rattle.vc_actor.specs.Turns.{actors}
 use Rattle.vc_plan.specs.Accepted.{IsAccepted, port_of}
-use Rattle.vc_plan.specs.Limits.{link_ok, port_ok, wire_ok, ends_ok, switch_links_ok, spot_there}
 use Rattle.vc_plan.specs.declared.plan.Plan.{Plan}
-use Rattle.vc_plan.specs.declared.port.Spot.{Spot}
-use Rattle.vc_plan.specs.declared.port.Spot.TheVariants.{Node, Switch}
 use Rattle.vc_plan.specs.declared.port.Wire.{Wire}
-use Rattle.vc_plan.proofs.Limits.{passes}
 use Rattle.vc_threads.specs.Private.Rings.{outs_of, ins_of, AddsRing, AreWired, CanAddRing}
 use Rattle.vc_threads.specs.Rings.{IsOnWire}
 use Rattle.vc_threads.specs.Private.Threads.{who}
@@ -23,15 +16,7 @@ use Rattle.vc_threads.specs.Works.{Out, In}
 use Rattle.vc_threads.specs.declared.spawn.Job.{Job}
 use Rattle.vc_threads.proofs.Goings.{any_default}
 use Rattle.vc_threads.proofs.Rings.{is_at, only}
-
--- the ports of a wire are there
-spot_few : (p : Plan) (s : Spot) → spot_there p s ≡ true → actor_of (length p.nodes) s < length p.nodes + length p.switches
-spot_few p (Node n) h = grind (arith, nat_tests)
-spot_few p (Switch k) h = grind (arith, nat_tests)
-
-link_small : (s : Spot) (link : ℕ) → link_ok s link ≡ true → link < 32
-link_small (Node n) link h = grind (arith, nat_tests)
-link_small (Switch k) link h = grind (arith, nat_tests)
+use Rattle.vc_core.proofs.WayTable.{spot_few, port_small}
 
 -- jobs of the same actors
 pub count_kept : (new old : List Job) → map who new ≡ map who old → length new ≡ length old
@@ -43,14 +28,7 @@ all_in P xs h k d less = let x = get_or xs k d in h x (k, less, any_default xs k
 
 module _ (p : Plan) (acc : IsAccepted p) (i : ℕ) (w : Wire) (is : slice_get p.wires i ≡ Some w) where
   small : (side : Bool) → (port_of w side).link < 32
-  small side = by_side side (both (port_ok w.one) (port_ok w.two) ok)
-    where
-      ok : wire_ok w ≡ true
-      ok = passes wire_ok p.wires i w (both (list_all wire_ok p.wires) (list_all ends_ok p.vlinks && list_all switch_links_ok p.switches) (kept p acc).links).0 is
-
-      by_side : (b : Bool) → (port_ok w.one ≡ true) × (port_ok w.two ≡ true) → (port_of w b).link < 32
-      by_side true h = link_small w.one.spot w.one.link h.0
-      by_side false h = link_small w.two.spot w.two.link h.1
+  small side = port_small p acc i w side is
 
   there : (side : Bool) → actor_of (length p.nodes) (port_of w side).spot < actors p
   there side = spot_few p (port_of w side).spot (wired p acc i w side is)

@@ -3,13 +3,12 @@ use Rattle.std.proofs.Common.{◌≡◌, ℕ, suc, ◌+◌, ◌*◌, ◌^◌, �
 use Rattle.std.specs.Global.{Vec}
 use Rattle.std.specs.List.{AllZip, Contains}
 use mathlib.Core.List.{IsPrefix}
-use Rattle.std.proofs.lemmas.Bool.{cases_lt}
+use Rattle.std.proofs.lemmas.Bool.{cases_lt, and_parts}
 use Rattle.std.proofs.lemmas.List.{map-append}
 use Rattle.std.proofs.lemmas.Option.{slice_get-map, get_or_from_slice_get}
 use Rattle.rtrb.specs.Ring.{sent, received, known_items}
 use Rattle.vc_accepted.specs.NetworkOf.{network_of}
 use Rattle.vc_accepted.specs.ActorWays.{actor_of}
-use Rattle.vc_accepted.proofs.Elements.{both}
 use Rattle.vc_network.specs.Actors.{Label, Steps, put_on}
 use Rattle.vc_network.specs.Actors.Label.{Own, Takes, Puts}
 use Rattle.vc_network.specs.LocalRun as local
@@ -140,7 +139,7 @@ module _ (p : Plan) (refuses : ℕ → ℕ → Type 0) (turns seed : ℕ) (js : 
     where
       at_wire : (link : ℕ) → i.0 ≡ link → IsOnWire p (length p.wires) k link → (j : ℕ) × HasGreatest (steps_of p refuses turns seed js rs first are ran j)
       at_wire link same (m, w, side, less, is, at) =
-          let r = both (actor_of (length p.nodes) (port_of w side).spot == k) ((port_of w side).link == link) at in
+          let r = and_parts (actor_of (length p.nodes) (port_of w side).spot == k) ((port_of w side).link == link) at in
           let actor = eqb-true (actor_of (length p.nodes) (port_of w side).spot) k r.0 in
           let there = eqb-true (port_of w side).link link r.1 in
           put_there m w side i less is (subst (λ a. Contains (ins_at e a) i) (sym actor) c) (same ∙ sym there) late

@@ -10,7 +10,6 @@ use Rattle.rand_pcg.specs.Lcg.{started, increment_of}
 use Rattle.rand_pcg.specs.Pcg.{multiplier_64}
 use Rattle.rtrb.specs.Ring.{sent, received, SameProducer, SameConsumer}
 use Rattle.vc_network.specs.Actors.Label.{Takes, Puts}
-use Rattle.vc_network.proofs.OneMerge.{both_lists}
 use Rattle.vc_network.specs.LocalRun.{Turn, LocalRun, CarriesStamp, next_stamp, plain, clock_after, all_put, all_taken}
 use Rattle.vc_network.specs.Plan.{Plan}
 use Rattle.vc_tokens.specs.declared.token.Token.{Token}
@@ -32,6 +31,7 @@ use Rattle.vc_threads.specs.Private.Works.{Seen, worker_state, Uses, Stays, Take
 use Rattle.vc_threads.proofs.Zips.{zip_weaker, zip_then, zip_one, zip_map, zip_same}
 use Rattle.vc_threads.proofs.Looks.{producer_then, consumer_then, looked_same, in_looked_same, in_looked_then}
 use Rattle.vc_threads.proofs.Steps.{clock_then, run_then, put_then, taken_then, words_then, draws_then, used_then, run_kept}
+use Rattle.vc_machine.proofs.Ownership.{all_both}
 
 pub any_default : {X : Type 0} (xs : List X) (k : ℕ) (d e : X) → k < length xs → get_or xs k d ≡ get_or xs k e
 any_default [] k d e l = absurd (omega arith)
@@ -43,7 +43,7 @@ link_at [] k d l = absurd (omega arith)
 link_at (x ∷ xs) zero d l = refl
 link_at (x ∷ xs) (suc k) d l = link_at xs k d (omega arith)
 
-length_links : {X : Type 0} (xs : List (ℕ × X)) → length (map (λ o. o.0) xs) ≡ length xs
+pub length_links : {X : Type 0} (xs : List (ℕ × X)) → length (map (λ o. o.0) xs) ≡ length xs
 length_links [] = refl
 length_links (x ∷ xs) = ap suc (length_links xs)
 
@@ -257,7 +257,7 @@ module _ (plan : Plan) (k : ℕ) where
               ∙ (append_assoc a.log (kept a.keeps (map logged p.steps)) (kept a.keeps (map logged q.steps)) ∙ ap (λ w. a.log ++ w) (sym (kept_then a.keeps p.steps q.steps)))));
           outs = sends_then p.steps q.steps a.outs b.outs c.outs p.goes.outs q.goes.outs;
           ins = receives_then p.steps q.steps a.ins b.ins c.ins p.goes.ins q.goes.ins;
-          links = both_lists (λ t. GoesOver (out_links a.outs) (in_links a.ins) t.it) p.steps q.steps p.goes.links
+          links = all_both (λ t. GoesOver (out_links a.outs) (in_links a.ins) t.it) p.steps q.steps p.goes.links
               (subst (λ ls. AllByRecursion (λ t. GoesOver ls (in_links a.ins) t.it) q.steps) (outs_same n a b p)
               (subst (λ ls. AllByRecursion (λ t. GoesOver (out_links b.outs) ls t.it) q.steps) (ins_same n a b p) q.goes.links));
           words = subst (λ w. Draws a.words w c.words) (sym (words_then p.steps q.steps)) (draws_then a.words b.words c.words (words_of p.steps) (words_of q.steps) p.goes.words q.goes.words);

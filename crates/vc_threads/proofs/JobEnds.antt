@@ -1,5 +1,5 @@
 -- Jobs whose ends have links of their own, and how the jobs are numbered.
-use Rattle.std.proofs.Common.{◌≡◌, ◌≢◌, ℕ, ◌+◌, ◌<◌, ◌⊎◌, Bool, true, false, if◌then◌else◌, List, [], ◌∷◌, ◌++◌, length, map, get_or, inl, inr, ap, sym, subst, ◌∙◌, arith, length-append, suc, refl, append_assoc}
+use Rattle.std.proofs.Common.{◌≡◌, ◌≢◌, ℕ, ◌+◌, ◌<◌, ◌⊎◌, Bool, true, false, if◌then◌else◌, List, [], ◌∷◌, ◌++◌, length, map, get_or, inl, inr, ap, sym, subst, ◌∙◌, arith, length-append, suc, append_assoc}
 use Rattle.std.specs.List.{All, AllByRecursion}
 use Rattle.std.proofs.lemmas.Bool.{cases_order}
 use Rattle.std.proofs.lemmas.List.{map-append, get_or-map, get_or_append_left}
@@ -11,6 +11,7 @@ use Rattle.vc_threads.specs.Private.Threads.{AreNumbered, Who, actor_in, who}
 use Rattle.vc_threads.specs.declared.spawn.Job.{Job}
 use Rattle.vc_threads.specs.Wires.{Distinct, out_links, in_links}
 use Rattle.vc_threads.specs.Works.{Out, In}
+use Rattle.vc_threads.proofs.Goings.{length_links}
 
 module _ {X : Type 0} where
   -- one link more, which no other has
@@ -18,7 +19,7 @@ module _ {X : Type 0} where
   distinct_more xs x dist fresh =
       subst Distinct (sym (map-append (λ (o : ℕ × X). o.0) xs (x ∷ []))) (λ i j less within same.
       let ls = map (λ (o : ℕ × X). o.0) xs in
-      let n : length ls ≡ length xs = links_length xs in
+      let n : length ls ≡ length xs = length_links xs in
       let s = length-append ls (x.0 ∷ []) in
       let left = get_or_append_left ls (x.0 ∷ []) 0 i (omega (arith, s)) in
       elim (order j (length ls) (omega (arith, s))) [
@@ -28,10 +29,6 @@ module _ {X : Type 0} where
             fresh i x m (sym (get_or-map (λ (o : ℕ × X). o.0) xs i x 0 m) ∙ (sym left ∙ (same ∙ (ap (λ k. get_or (ls ++ x.0 ∷ []) k 0) last ∙ get_or-append_seam ls x.0 [] 0))))
       ])
     where
-      links_length : {X : Type 0} (xs : List (ℕ × X)) → length (map (λ o. o.0) xs) ≡ length xs
-      links_length [] = refl
-      links_length (x ∷ xs) = ap suc (links_length xs)
-
       order : (j n : ℕ) → j < n + 1 → (j < n) ⊎ (j ≡ n)
       order j n l = elim (cases_order j n) [
         | inl e ↦ inr e

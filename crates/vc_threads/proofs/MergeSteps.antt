@@ -4,11 +4,7 @@ use Rattle.std.specs.List.{AllByRecursion}
 use Rattle.std.proofs.lemmas.Bool.{ne_eqb}
 use Rattle.vc_network.specs.LocalRun.{Stamped}
 use Rattle.vc_network.specs.Merge.{Made, Numbered, part, NotAfter, IsMerge, AreDistinct, Rises, StampsRise, RunRises, run_of}
-
-pub all_get : {X : Type 0} (P : X → Type 0) (xs : List X) (k : ℕ) (x : X) → AllByRecursion P xs → slice_get xs k ≡ Some x → P x
-all_get P [] k x h e = absurd (cc)
-all_get P (y ∷ ys) zero x h e = let same : y ≡ x = cc in subst P same h.0
-all_get P (y ∷ ys) (suc k) x h e = all_get P ys k x h.1 e
+use Rattle.vc_switch.proofs.ListWrites.{all-at}
 
 module _ {A : Type 0} where
   -- the runs without the first act of run k
@@ -71,7 +67,7 @@ module _ {A : Type 0} where
       by_test : (b : Bool) → (q.actor == actor) ≡ b → (if r.actor == actor then s ∷ run_of (without qs k) actor else run_of (without qs k) actor) ≡ run_of qs actor
           → (if r.actor == actor then s ∷ (if b then q.run else run_of (without qs k) actor) else (if b then q.run else run_of (without qs k) actor)) ≡ (if b then q.run else run_of qs actor)
       by_test true mine h =
-          let other : (r.actor == actor) ≡ false = ne_eqb r.actor actor (λ same. all_get (λ (z : Numbered A). q.actor ≡ z.actor → ⊥) qs k r d.0 e (eqb-true q.actor actor mine ∙ sym same)) in
+          let other : (r.actor == actor) ≡ false = ne_eqb r.actor actor (λ same. all-at (λ (z : Numbered A). q.actor ≡ z.actor → ⊥) qs k r d.0 e (eqb-true q.actor actor mine ∙ sym same)) in
           ap (λ c. if c then s ∷ q.run else q.run) other
       by_test false other h = h
 

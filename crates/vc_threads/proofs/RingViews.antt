@@ -4,6 +4,7 @@ use Rattle.std.specs.Global.{Vec}
 use Rattle.std.specs.List.{AllZip, Contains, HoldsAt}
 use Rattle.std.proofs.lemmas.Bool.{cases_eq}
 use Rattle.std.proofs.Math.ListN.{set}
+use Rattle.std.proofs.lemmas.Option.{same_Some}
 use Rattle.vc_accepted.specs.ActorWays.{actor_of}
 use Rattle.rtrb.specs.Ring.{IsPair, SameProducer}
 use Rattle.vc_plan.specs.declared.port.Port.{Port}
@@ -174,7 +175,7 @@ pub left_more : (nodes : ℕ) (e : AllEnds) (ws : List Wire) (n : ℕ) (w : Wire
     → LeftAt nodes e u.items w.one w.two → LeftAt nodes e v.items w.two w.one → OnWays (LeftOn nodes e ((left ++ u ∷ []) ++ v ∷ [])) ws (n + 1)
 left_more nodes e ws n w left u v is count had one two i x less at = elim (cases_eq i n) [
   | inl here ↦
-      let same : x ≡ w = some_is x w (sym at ∙ (ap (slice_get ws) here ∙ is)) in
+      let same : x ≡ w = same_Some x w (sym at ∙ (ap (slice_get ws) here ∙ is)) in
       let first : length left ≡ 2 * i = omega arith in
       let second : length (left ++ u ∷ []) ≡ 2 * i + 1 = omega (arith, more) in (
         subst (λ ts. LeftAt nodes e ts x.one x.two) (sym (tokens_still (left ++ u ∷ []) v (2 * i) (omega (arith, more)) ∙ (ap (tokens_at (left ++ u ∷ [])) (sym first) ∙ tokens_last left u)))
@@ -190,9 +191,6 @@ left_more nodes e ws n w left u v is count had one two i x less at = elim (cases
       )
 ]
   where
-    some_is : (x y : Wire) → Some x ≡ Some y → x ≡ y
-    some_is x y e = cc
-
     more : length (left ++ u ∷ []) ≡ length left + 1
     more = length-append left (u ∷ [])
 

@@ -1,10 +1,11 @@
 -- The rings of a plan, made one after another.
-use Rattle.std.proofs.Common.{◌≡◌, ◌≢◌, ℕ, zero, suc, ◌+◌, ◌<◌, ◌⊎◌, Bool, true, false, List, [], ◌∷◌, ◌++◌, length, map, get_or, slice_get, Some, refl, ap, sym, subst, ◌∙◌, arith, inl, inr, length-append, length-set, eq-eqb, ◌&&◌, ◌==◌}
+use Rattle.std.proofs.Common.{◌≡◌, ◌≢◌, ℕ, zero, suc, ◌+◌, ◌<◌, ◌⊎◌, Bool, true, false, List, [], ◌∷◌, ◌++◌, length, map, get_or, slice_get, Some, refl, ap, sym, subst, ◌∙◌, arith, inl, inr, length-set, eq-eqb, ◌&&◌, ◌==◌}
 use Rattle.std.specs.List.{Contains}
 use Rattle.std.proofs.Math.ListN.{set}
-use Rattle.std.proofs.Math.Seq.{get_or-append_seam, map-set_same}
-use Rattle.std.proofs.lemmas.Bool.{cases_eq, cases_order}
-use Rattle.std.proofs.lemmas.List.{get_or_append_left}
+use Rattle.std.proofs.Math.Seq.{map-set_same}
+use Rattle.std.proofs.lemmas.Bool.{cases_eq}
+use Rattle.std.proofs.lemmas.Option.{same_Some}
+use Rattle.std.proofs.lemmas.List.Elements.{Contains-push, Contains-append_left, Contains-push_cases}
 use Rattle.vc_accepted.specs.ActorWays.{actor_of, is_link}
 use Rattle.vc_plan.specs.Accepted.{port_of}
 use Rattle.vc_plan.specs.declared.plan.Plan.{Plan}
@@ -61,34 +62,19 @@ makes_ring nodes js from to s t j d k e out into source sink l m d_is e_is outs 
     }
 
 module _ {X : Type 0} where
-  last_in : (xs : List X) (x : X) → Contains (xs ++ x ∷ []) x
-  last_in xs x = (length xs, omega (arith, length-append xs (x ∷ [])), get_or-append_seam xs x [] x)
-
-  still_in : (xs ys : List X) (x : X) → Contains xs x → Contains (xs ++ ys) x
-  still_in xs ys x h = let less = h.1 in (h.0, omega (arith, length-append xs ys, less), get_or_append_left xs ys x h.0 h.1 ∙ h.2)
-
-  in_either : (xs : List X) (y x : X) → Contains (xs ++ y ∷ []) x → Contains xs x ⊎ (y ≡ x)
-  in_either xs y x h =
-      let less = h.1 in
-      let n = length-append xs (y ∷ []) in
-      elim (cases_order h.0 (length xs)) [
-        | inl e ↦ inr (sym (get_or-append_seam xs y [] x) ∙ (ap (λ k. get_or (xs ++ y ∷ []) k x) (sym e) ∙ h.2))
-        | inr o ↦ elim o [ inl inside ↦ inl (h.0, inside, sym (get_or_append_left xs (y ∷ []) x h.0 inside) ∙ h.2) | inr past ↦ absurd (omega (arith, less, n, past)) ]
-      ]
-
   -- an actor was given one more
   given : (old new : ℕ → List X) (s : ℕ) (y : X) → OneMore old s y new → Contains (new s) y
-  given old new s y m = subst (λ zs. Contains zs y) (sym m.0) (last_in (old s) y)
+  given old new s y m = subst (λ zs. Contains zs y) (sym m.0) (Contains-push (old s) y)
 
   kept : (old new : ℕ → List X) (s : ℕ) (y : X) → OneMore old s y new → (k : ℕ) (x : X) → Contains (old k) x → Contains (new k) x
   kept old new s y m k x h = elim (cases_eq k s) [
-    | inl e ↦ subst (λ i. Contains (new i) x) (sym e) (subst (λ zs. Contains zs x) (sym m.0) (still_in (old s) (y ∷ []) x (subst (λ i. Contains (old i) x) e h)))
+    | inl e ↦ subst (λ i. Contains (new i) x) (sym e) (subst (λ zs. Contains zs x) (sym m.0) (Contains-append_left (old s) (y ∷ []) x (subst (λ i. Contains (old i) x) e h)))
     | inr ne ↦ subst (λ zs. Contains zs x) (sym (m.1 k ne)) h
   ]
 
   pub only : (old new : ℕ → List X) (s : ℕ) (y : X) → OneMore old s y new → (k : ℕ) (x : X) → Contains (new k) x → Contains (old k) x ⊎ ((k ≡ s) × (y ≡ x))
   only old new s y m k x h = elim (cases_eq k s) [
-    | inl e ↦ elim (in_either (old s) y x (subst (λ zs. Contains zs x) m.0 (subst (λ i. Contains (new i) x) e h))) [
+    | inl e ↦ elim (Contains-push_cases (old s) y x (subst (λ zs. Contains zs x) m.0 (subst (λ i. Contains (new i) x) e h))) [
       | inl before ↦ inl (subst (λ i. Contains (old i) x) (sym e) before)
       | inr same ↦ inr (e, same)
     ]
@@ -157,7 +143,7 @@ module _ (p : Plan) (n : ℕ) (w : Wire) (is : slice_get p.wires n ≡ Some w) w
   wired_more old mid new h one two = record {
     rings = λ i v less at. elim (cases_eq i n) [
       | inl e ↦ (
-          let same : v ≡ w = some_is v w (sym at ∙ (ap (slice_get p.wires) e ∙ is)) in
+          let same : v ≡ w = same_Some v w (sym at ∙ (ap (slice_get p.wires) e ∙ is)) in
           subst (λ (x : Wire). HasRing (length p.nodes) new x.one x.two × HasRing (length p.nodes) new x.two x.one) (sym same)
           (ring_kept (length p.nodes) mid new w.two w.one w.one w.two two (ring_made (length p.nodes) old mid w.one w.two one), ring_made (length p.nodes) mid new w.two w.one two)
           )
@@ -171,9 +157,6 @@ module _ (p : Plan) (n : ℕ) (w : Wire) (is : slice_get p.wires n ≡ Some w) w
     outs = out_on mid new w.two w.one false refl two (out_on old mid w.one w.two true refl one (λ k o c. on_later p n k o.0 (h.outs k o c)));
     ins = in_on mid new w.two w.one true refl two (in_on old mid w.one w.two false refl one (λ k o c. on_later p n k o.0 (h.ins k o c)));
   }
-    where
-      some_is : (x y : Wire) → Some x ≡ Some y → x ≡ y
-      some_is x y e = cc
 
 nothing_in : {X : Type 0} (xs : List X) (x : X) → xs ≡ [] → Contains xs x → ⊥
 nothing_in xs x e h = let n = ap length e in let less = h.1 in omega (arith, n, less)

@@ -11,7 +11,7 @@ use Rattle.vc_threads.specs.Private.MergedRuns.{front_of, id_at, IsNext, NotLate
 use Rattle.vc_threads.specs.declared.merged_runs.Front.{Front}
 use Rattle.vc_threads.specs.declared.run.ActorRun.{ActorRun}
 use Rattle.vc_threads.proofs.Fronts.{Coming, left_of, left_in, stamped}
-use Rattle.vc_threads.proofs.MergeSteps.{all_get}
+use Rattle.vc_switch.proofs.ListWrites.{all-at}
 
 -- the first with the stamp that none is below comes first of all
 pub found_with : (rs : List ActorRun) (fs : List Front) (in_order : Bool) (from at k : ℕ) → length fs ≡ length rs → IsTrue in_order → IdsRise rs → HavePassed fs in_order from at → FindsWith fs from at (Some k) → FindsFirst rs fs (Some k)
@@ -65,7 +65,7 @@ module _ (rs : List ActorRun) (fs : List Front) (k at : ℕ) (r : ActorRun) (f :
       let x = stamped (slice_get r.acts.items (f.place + 1)) later is in
       let one : f.place + 1 ≡ suc f.place = omega arith in
       let there = sym (ap (slice_get r.acts.items) one) ∙ x.1 in
-      let less = later_on r.acts.items f.place c.act x.0 c.act_is there (all_get RunRises (left_of rs fs) k (left_in r f.place) rising c.left) in
+      let less = later_on r.acts.items f.place c.act x.0 c.act_is there (all-at RunRises (left_of rs fs) k (left_in r f.place) rising c.left) in
       let e = c.stamp in
       let d = x.2 in
       omega (arith, less, e, d)

@@ -1,4 +1,3 @@
-use denote.Builtin.{u16}
 use denote.Param.Send.{IsSend, sendable}
 use Rattle.vc_actor.specs.contracts.actor.Actor as Actor
 use Rattle.vc_actor.specs.contracts.actor.Part as Part
@@ -25,17 +24,14 @@ use Rattle.std.proofs.Crossing.{crosses}
 datum_send : IsSend Datum.the_row
 datum_send = datum.the_send
 
-items_send : IsSend (Items.the_row u16)
-items_send = search (sendable, crosses) depth 20
-
 running_field : IsSend Running.the_field.row
-running_field = search (sendable, crosses, frame_field, datum_send, items_send, waiters.the_send) depth 20
+running_field = search (sendable, crosses, frame_field, datum_send, waiters.the_send) depth 20
 
 node_field : IsSend Node.the_field.row
 node_field = search (sendable, crosses, vcp.the_send, running_field, inside.the_send) depth 20
 
 moves_send : IsSend (Items.the_row Move.the_row)
-moves_send = search (sendable, crosses, move.the_send, move.the_field_send) depth 20
+moves_send = search (sendable, crosses, move.the_send) depth 20
 
 node_actor_field : IsSend NodeActor.the_field.row
 node_actor_field = search (sendable, crosses, node_field, moves_send) depth 30
@@ -47,7 +43,7 @@ pub actor_send : IsSend Actor.the_row
 actor_send = search (sendable, part_field) depth 20
 
 pub run_send : IsSend ActorRun.the_row
-run_send = search (sendable, crosses, actor_send, ends.the_field_send, stop.the_field_send, act.the_send, act.the_field_send) depth 20 fits 20000
+run_send = search (sendable, crosses, actor_send, ends.the_field_send, stop.the_field_send, act.the_send) depth 20 fits 20000
 
 pub job_send : IsSend Job.the_row
 job_send = search (sendable, crosses, actor_send, ends.the_field_send) depth 20 fits 20000

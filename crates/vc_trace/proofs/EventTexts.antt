@@ -6,6 +6,8 @@ use Rattle.std.proofs.Math.Dec.{eqb}
 use Rattle.std.proofs.lemmas.Bool.Decides.{Decides-eqb, nat_tests}
 use Rattle.std.proofs.lemmas.Grind.{flat_map-append}
 use Rattle.std.proofs.lemmas.Slice.Eq.{starts_is}
+use Rattle.std.proofs.lemmas.Bool.{and_parts}
+use Rattle.std.proofs.KnownBytes.{Consumes-trans, Consumes-nil}
 use Rattle.vc_core.specs.Replay.{Reached, IsOpening}
 use Rattle.vc_core.specs.State.{State, shown, MakesEvent}
 use Rattle.vc_core.specs.declared.event.Event.{Event}
@@ -17,7 +19,6 @@ use Rattle.vc_trace.specs.Lines.{IsLineBefore, IsOnOneLine, left}
 use Rattle.vc_trace.specs.Replay.{EndsEvents, IsNoEvent}
 use Rattle.vc_trace.specs.Private.Replay.{MakesEvents, MakesLine}
 use Rattle.vc_trace.specs.declared.refused_line.RefusedLine.{RefusedLine}
-use Rattle.vc_trace.proofs.Found.{both}
 
 -- the lines in front of this one are those of events, which were made
 pub record HasMade (p : Plan) (old new : Option (List ℕ)) (s : State) (number : ℕ) : Type 0 where
@@ -28,28 +29,18 @@ pub record HasMade (p : Plan) (old new : Option (List ℕ)) (s : State) (number 
 
 -- ---- what was read
 
-consumes_two : (old mid new : Option (List ℕ)) (a b : List ℕ) → Consumes old mid a → Consumes mid new b → Consumes old new (a ++ b)
-consumes_two None mid new a b p q = tt
-consumes_two (Some x) None new a b p q = absurd p
-consumes_two (Some x) (Some y) None a b p q = absurd q
-consumes_two (Some x) (Some y) (Some z) a b p q = p ∙ ap (λ t. a ++ t) q ∙ sym (append_assoc a b z)
-
-nothing_read : (known : Option (List ℕ)) → Consumes known known []
-nothing_read None = tt
-nothing_read (Some x) = refl
-
 all_read : (old new : Option (List ℕ)) (a : List ℕ) → Consumes old new a → IsAllOf old (a ++ left new)
 all_read None new a p = tt
 all_read (Some x) None a p = absurd p
 all_read (Some x) (Some y) a p = sym p
 
 pub all_with : (old mid new : Option (List ℕ)) (a b : List ℕ) → Consumes old mid a → Consumes mid new b → IsAllOf old (a ++ b ++ left new)
-all_with old mid new a b p q = all_read old new (a ++ b) (consumes_two old mid new a b p q)
+all_with old mid new a b p q = all_read old new (a ++ b) (Consumes-trans old mid new a b p q)
 
 -- ---- events
 
 pub none_made : (p : Plan) (known : Option (List ℕ)) (s : State) → IsOpening p s → HasMade p known known s 1
-none_made p known s opens = record { events = []; many = omega arith; reached = reached_first p [] s opens; read = nothing_read known }
+none_made p known s opens = record { events = []; many = omega arith; reached = reached_first p [] s opens; read = Consumes-nil known }
 
 one_more : (p : Plan) (es : List Event) (e : Event) → events_text p (es ++ e ∷ []) ≡ events_text p es ++ event_line p e
 one_more p es e = flat_map-append (event_line p) es (e ∷ []) ∙ ap (λ t. events_text p es ++ t) (append-nil (event_line p e))
@@ -62,7 +53,7 @@ made_more p old mid new s t n line e made read is makes =
       events = es ++ e ∷ [];
       many = ap (λ m. m + 1) (length-append es (e ∷ []) ∙ made.many);
       reached = reached_next p es e s t made.reached makes;
-      read = subst (Consumes old new) (sym (one_more p es e ∙ ap (λ u. events_text p es ++ u) is)) (consumes_two old mid new (events_text p es) line made.read read);
+      read = subst (Consumes old new) (sym (one_more p es e ∙ ap (λ u. events_text p es ++ u) is)) (Consumes-trans old mid new (events_text p es) line made.read read);
     }
 
 -- ---- what a line begins with
@@ -78,9 +69,9 @@ tails x y xs ys e = cc
 
 within_line : (first front rest behind : List ℕ) → IsOnOneLine first → (front ++ 10 ∷ []) ++ rest ≡ first ++ behind → (more : List ℕ) × (front ++ 10 ∷ [] ≡ first ++ more)
 within_line [] front rest behind one same = (front ++ 10 ∷ [], refl)
-within_line (x ∷ xs) [] rest behind one same = absurd (unbroken x (both _ _ one).0 (sym (heads 10 x rest (xs ++ behind) same)))
+within_line (x ∷ xs) [] rest behind one same = absurd (unbroken x (and_parts _ _ one).0 (sym (heads 10 x rest (xs ++ behind) same)))
 within_line (x ∷ xs) (y ∷ ys) rest behind one same =
-    let (more, is) = within_line xs ys rest behind (both _ _ one).1 (tails y x _ _ same) in
+    let (more, is) = within_line xs ys rest behind (and_parts _ _ one).1 (tails y x _ _ same) in
     (more, ap (λ t. y ∷ t) is ∙ ap (λ z. z ∷ (xs ++ more)) (heads y x _ _ same))
 
 within_front : (first line rest behind : List ℕ) → length first ≤ length line → line ++ rest ≡ first ++ behind → (more : List ℕ) × (line ≡ first ++ more)

@@ -3,10 +3,10 @@ use Rattle.std.proofs.Common.{◌≡◌, ◌<◌, ◌≤◌, ◌-◌, ◌==◌, 
 use Rattle.std.specs.Option.{MatchOption, option_map}
 use Rattle.std.specs.Str.{bytes_eq}
 use Rattle.std.proofs.lemmas.Slice.Eq.{bytes_eq-Decides}
+use Rattle.std.proofs.lemmas.Bool.{and_parts}
 use Rattle.vc_waits.specs.Waits.{newline}
 use Rattle.vc_trace.specs.EventText.{spaced}
 use Rattle.vc_trace.specs.Private.Words.{IsWord}
-use Rattle.vc_trace.proofs.Found.{both}
 
 -- no space
 unspaced : (b : ℕ) → not (b == 32) ≡ true → b ≡ 32 → ⊥
@@ -18,9 +18,9 @@ pub word_end : (w : List ℕ) (ws : List (List ℕ)) (n : ℕ) → IsWord w → 
 word_end [] ws zero is within before space = refl
 word_end [] [] (suc n) is within before space = absurd (omega (arith, within))
 word_end [] (v ∷ vs) (suc n) is within before space = absurd (before 0 (omega arith) refl)
-word_end (b ∷ bs) ws zero is within before space = absurd (unspaced b (both _ _ is).0 (space (omega arith)))
+word_end (b ∷ bs) ws zero is within before space = absurd (unspaced b (and_parts _ _ is).0 (space (omega arith)))
 word_end (b ∷ bs) ws (suc n) is within before space =
-    ap suc (word_end bs ws n (both _ _ is).1 (omega (arith, within)) (λ k less. before (suc k) (omega arith)) (λ less. space (omega arith)))
+    ap suc (word_end bs ws n (and_parts _ _ is).1 (omega (arith, within)) (λ k less. before (suc k) (omega arith)) (λ less. space (omega arith)))
 
 first_behind : (w r : List ℕ) → (take (length w) (w ++ r) ≡ w) × (drop (length w) (w ++ r) ≡ r)
 first_behind [] r = (refl, refl)

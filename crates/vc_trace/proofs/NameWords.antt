@@ -6,6 +6,7 @@ use Rattle.std.proofs.lemmas.Bool.Decides.{nat_tests}
 use Rattle.std.proofs.lemmas.Fmt.{decimal_by_steps, decimal_digit, first_decimal}
 use Rattle.std.proofs.lemmas.List.Folds.{list_all-append}
 use Rattle.std.proofs.lemmas.Option.{slice_get_cases}
+use Rattle.std.proofs.lemmas.Bool.{and_parts}
 use Rattle.vc_plan.specs.declared.channel.Channel.{Channel}
 use Rattle.vc_plan.specs.declared.node_plan.NodePlan.{NodePlan}
 use Rattle.vc_plan.specs.declared.plan.Plan.{Plan}
@@ -17,7 +18,6 @@ use Rattle.vc_trace.specs.EventOf.{IsGuard}
 use Rattle.vc_trace.specs.Private.EventOf.{IsNamed}
 use Rattle.vc_trace.specs.EventText.{guard_word}
 use Rattle.vc_trace.specs.Private.Words.{IsWord}
-use Rattle.vc_trace.proofs.Found.{both}
 
 -- the digits of a number
 digit : (n : ℕ) → n < 10 → not ((48 + n) == 32) ≡ true
@@ -48,10 +48,10 @@ name_byte b is = grind (arith, nat_tests)
 
 word_bytes : (name : List ℕ) → list_all is_name_byte name ≡ true → IsWord name
 word_bytes [] all = refl
-word_bytes (b ∷ bs) all = let e = both _ _ all in rw (name_byte b e.0) (word_bytes bs e.1)
+word_bytes (b ∷ bs) all = let e = and_parts _ _ all in rw (name_byte b e.0) (word_bytes bs e.1)
 
 word_name : (name : List ℕ) → IsName name → IsWord name
-word_name name is = word_bytes name (both _ _ (both _ _ is).1).1
+word_name name is = word_bytes name (and_parts _ _ (and_parts _ _ is).1).1
 
 name_of : {A : Type 0} (name : A → List ℕ) (P : A → Type 0) (xs : List A) (k : ℕ) → All P xs → ((x : A) → P x → IsName (name x)) → IsWord (option_map_or name (slice_get xs k) [])
 name_of name P xs k all is = elim (slice_get_cases xs k).1 [

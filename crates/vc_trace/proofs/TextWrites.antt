@@ -1,15 +1,10 @@
 -- Texts that go to a writer one after another.
 use Rattle.std.proofs.Common.{◌≡◌, ◌<◌, ℕ, zero, suc, ◌+◌, List, [], ◌∷◌, ◌++◌, length, take, get_or, Option, Some, None, Result, Ok, Err, OnErr, refl, sym, ap, subst, ◌∙◌, append_assoc, append-nil, arith}
+use Rattle.std.proofs.KnownBytes.{Appends-trans}
 use Rattle.std.specs.List.{flat_map}
 use Rattle.std.specs.Io.KnownBytes.{Appends}
 use Rattle.vc_text.specs.Streams.{AppendsFront}
 use Rattle.vc_trace.specs.Private.Pieces.{Passes}
-
-appends_two : (a b c : Option (List ℕ)) (xs ys : List ℕ) → Appends a b xs → Appends b c ys → Appends a c (xs ++ ys)
-appends_two None b c xs ys p q = tt
-appends_two (Some u) None c xs ys p q = absurd p
-appends_two (Some u) (Some v) None xs ys p q = absurd q
-appends_two (Some u) (Some v) (Some w) xs ys p q = q ∙ ap (λ t. t ++ ys) p ∙ append_assoc u xs ys
 
 -- a front of a list, behind another list
 take_behind : (xs ys : List ℕ) (k : ℕ) → (n : ℕ) × (take n (xs ++ ys) ≡ xs ++ take k ys)
@@ -41,13 +36,13 @@ front_longer a b text more (k, front) =
 pub front_behind : (a b c : Option (List ℕ)) (xs ys : List ℕ) → Appends a b xs → AppendsFront b c ys → AppendsFront a c (xs ++ ys)
 front_behind a b c xs ys all (k, front) =
     let (n, is) = take_behind xs ys k in
-    (n, subst (Appends a c) (sym is) (appends_two a b c xs (take k ys) all front))
+    (n, subst (Appends a c) (sym is) (Appends-trans a b c xs (take k ys) all front))
 
 -- a text, and then another
 pub passes_two : (old mid new : Option (List ℕ)) (held left after x y : List ℕ) → Passes old held mid left x → Passes mid left new after y → Passes old held new after (x ++ y)
 passes_two old mid new held left after x y (out, all, is) (out2, all2, is2) = (
   out ++ out2,
-  appends_two old mid new out out2 all all2,
+  Appends-trans old mid new out out2 all all2,
   append_assoc out out2 after ∙ ap (λ t. out ++ t) is2 ∙ sym (append_assoc out left y) ∙ ap (λ t. t ++ y) is ∙ append_assoc held x y,
 )
 
@@ -62,11 +57,11 @@ front_first old new held x y front = subst (AppendsFront old new) (append_assoc 
 
 -- a text, and then all that the buffer has
 pub passes_all : (old mid new : Option (List ℕ)) (held left x : List ℕ) → Passes old held mid left x → Appends mid new left → Appends old new (held ++ x)
-passes_all old mid new held left x (out, all, is) last = subst (Appends old new) is (appends_two old mid new out left all last)
+passes_all old mid new held left x (out, all, is) last = subst (Appends old new) is (Appends-trans old mid new out left all last)
 
 -- what the buffer had goes, and then the text itself
 pub passes_whole : (old mid new : Option (List ℕ)) (held text : List ℕ) → Appends old mid held → Appends mid new text → Passes old held new [] text
-passes_whole old mid new held text first then = (held ++ text, appends_two old mid new held text first then, append-nil (held ++ text))
+passes_whole old mid new held text first then = (held ++ text, Appends-trans old mid new held text first then, append-nil (held ++ text))
 
 -- what holds anyway holds where there is an error
 pub any_err : {T E P : Type 0} (r : Result T E) → P → OnErr r P
@@ -114,4 +109,4 @@ passes_held old mid new held left x (out, all, is) front = subst (AppendsFront o
 -- a text, and then all that the buffer has with another
 pub passes_last : (old mid new : Option (List ℕ)) (held left x y : List ℕ) → Passes old held mid left x → Appends mid new (left ++ y) → Appends old new (held ++ (x ++ y))
 passes_last old mid new held left x y (out, all, is) last =
-    subst (Appends old new) (sym (append_assoc out left y) ∙ ap (λ t. t ++ y) is ∙ append_assoc held x y) (appends_two old mid new out (left ++ y) all last)
+    subst (Appends old new) (sym (append_assoc out left y) ∙ ap (λ t. t ++ y) is ∙ append_assoc held x y) (Appends-trans old mid new out (left ++ y) all last)

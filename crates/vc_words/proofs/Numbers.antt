@@ -2,7 +2,7 @@
 use Rattle.std.proofs.Common.{◌≡◌, ◌∙◌, ◌<◌, ◌≤◌, ◌^◌, ◌&&◌, ℕ, Bool, true, false, refl, sym, List, [], ◌∷◌, length, Option, Some, None, Result, Ok, Err, nat_lt, nat_le, true≢false, arith, unwrap_or, option_and_then, ap, is_some, is_ok}
 use Rattle.std.specs.Bool.{⊤}
 use Rattle.std.specs.Result.{result_unwrap_or}
-use Rattle.std.proofs.lemmas.Bool.{lt-ltb, le-leb, ltb-true, leb-true}
+use Rattle.std.proofs.lemmas.Bool.{lt-ltb, le-leb, ltb-true, leb-true, and_parts}
 use Rattle.std.specs.List.{list_all}
 use Rattle.std.specs.Char.{digit_value}
 use Rattle.std.specs.Str.Parse.{AllDigits, ParsesUnsigned, digits_value, without_leading_plus}
@@ -16,14 +16,10 @@ digits_pass : (ds : List ℕ) → AllDigits 10 ds → list_all (λ d. nat_lt (di
 digits_pass [] h = refl
 digits_pass (d ∷ ds) h = rw (lt-ltb (digit_value d) 10 h.0) (digits_pass ds h.1)
 
-both : (a b : Bool) → (a && b) ≡ true → (a ≡ true) × (b ≡ true)
-both true b e = (refl, e)
-both false b e = absurd (true≢false (sym e))
-
 digits_from : (ds : List ℕ) → list_all (λ d. nat_lt (digit_value d) 10) ds ≡ true → AllDigits 10 ds
 digits_from [] e = tt
 digits_from (d ∷ ds) e =
-    let parts = both _ _ e in
+    let parts = and_parts _ _ e in
     (ltb-true _ _ parts.0, digits_from ds parts.1)
 
 -- a number in its range is the text's
@@ -48,14 +44,14 @@ out_of_range most text r h fits beyond = go r h beyond (is_number most (without_
     go r h beyond false t = rw t refl
     go (Ok n) h beyond true t =
         let ds = without_leading_plus text in
-        let outer = both (has_digits ds) (nat_le (digits_value 10 ds) most) t in
+        let outer = and_parts (has_digits ds) (nat_le (digits_value 10 ds) most) t in
         let le : digits_value 10 ds ≤ most = leb-true (digits_value 10 ds) most outer.1 in
         let least : most < digits_value 10 ds = rw (← h.1) (beyond n refl) in
         absurd (omega (arith, least, le))
     go (Err e) h beyond true t =
         let ds = without_leading_plus text in
-        let outer = both (has_digits ds) (nat_le (digits_value 10 ds) most) t in
-        let inner = both (nat_lt 0 (length ds)) (list_all (λ d. nat_lt (digit_value d) 10) ds) outer.0 in
+        let outer = and_parts (has_digits ds) (nat_le (digits_value 10 ds) most) t in
+        let inner = and_parts (nat_lt 0 (length ds)) (list_all (λ d. nat_lt (digit_value d) 10) ds) outer.0 in
         let le : digits_value 10 ds ≤ most = leb-true (digits_value 10 ds) most outer.1 in
         absurd (h ((ltb-true 0 (length ds) inner.0, digits_from ds inner.1), omega (arith, le, fits)))
 

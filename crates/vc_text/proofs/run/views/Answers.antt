@@ -2,8 +2,9 @@ use Rattle.std.proofs.Common.{◌<◌, ◌≤◌, ap, ◌∙◌, map, length, ar
 use Rattle.vc_core.specs.State.{shown, state_of}
 use Rattle.vc_actor.proofs.ChannelWays.{few_channels}
 use Rattle.vc_text.specs.Views.{shown as traffic_of}
-use Rattle.vc_text.proofs.Channels.{viewed_more, viewed_all, some_at}
+use Rattle.vc_text.proofs.Channels.{viewed_more, viewed_all}
 use Rattle.vc_text.proofs.run.views.Goals as goal
+use Rattle.vc_switch.proofs.ListWrites.{some_at}
 
 pub loop-chan-preserved : goal.loop-chan-preserved
 loop-chan-preserved c = λ p is.

@@ -5,9 +5,9 @@ use Rattle.vc_threads.specs.Works.{Out, In}
 use Rattle.vc_threads.proofs.RingViews.{found, one_end, taken_none}
 use Rattle.vc_threads.proofs.Goings.{any_default}
 use Rattle.vc_threads.proofs.Looks.{looked_same, looked_then}
-use Rattle.vc_threads.proofs.Outcomes.{if_ok_map}
 use Rattle.vc_threads.proofs.Zips.{zip_same, zip_set, zip_step}
 use Rattle.vc_threads.proofs.order.take_between.Goals as goal
+use Rattle.vc_actor.proofs.Turns.{if_ok}
 
 pub take_rest-requires : goal.take_rest-requires
 take_rest-requires c =
@@ -35,7 +35,7 @@ returns c =
       outs = zip_step OutLooked looked_then os os a x c.take_rest.new.out (zip_same OutLooked looked_same os) within (subst (λ v. OutLooked v c.take_rest.new.out) c.index_mut.ensures.value c.take_rest.ensures.out);
       ins = zip_set By is is b new (zip_same By (taken_none (λ link. link ≡ c.args.to)) is) within2 (λ d.
           subst (λ v. By v new) (c.index_mut-2.ensures.value ∙ any_default is b y d within2) (c.take_rest.ensures.into, λ none. absurd (none g.1)));
-      left = if_ok_map (λ tokens. IsLeft tokens.items x y) (λ tokens. AtLinks (IsLeft tokens.items) os is c.args.from c.args.to) c.take_rest.result
+      left = if_ok (λ tokens. IsLeft tokens.items x y) (λ tokens. AtLinks (IsLeft tokens.items) os is c.args.from c.args.to) c.take_rest.result
           (λ tokens left o i co ci eo ei.
           subst (λ (v : Out). IsLeft tokens.items v i) (one_end os x o c.requires.outs_apart f.0 co (f.1 ∙ sym eo))
           (subst (λ (w : In). IsLeft tokens.items x w) (one_end is y i c.requires.ins_apart g.0 ci (g.1 ∙ sym ei)) left))

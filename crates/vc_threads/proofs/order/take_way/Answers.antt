@@ -4,9 +4,9 @@ use Rattle.vc_threads.specs.Private.Order.{outs_at, AtLinks, IsLeft, IsPort, Lef
 use Rattle.vc_threads.specs.Wires.{OutLooked}
 use Rattle.vc_threads.proofs.RingViews.{actor_there, ends_there, one_changed, taken_none, taken_more}
 use Rattle.vc_threads.proofs.Looks.{looked_same}
-use Rattle.vc_threads.proofs.Outcomes.{if_ok_map}
 use Rattle.vc_threads.proofs.Zips.{zip_weaker}
 use Rattle.vc_threads.proofs.order.take_way.Goals as goal
+use Rattle.vc_actor.proofs.Turns.{if_ok}
 
 pub take_between-requires : goal.take_between-requires
 take_between-requires c =
@@ -41,7 +41,7 @@ returns c =
         ins = one_changed (λ v. v.items) (λ k. TakenBy (IsPort nodes to k)) (λ k. taken_none (IsPort nodes to k)) e.ins.items sink c.take_between.new.ins w m c.index_mut-2.ensures.value
             (zip_weaker (TakenBy (λ link. link ≡ to.link)) (TakenBy (IsPort nodes to sink)) (taken_more (λ link. link ≡ to.link) (IsPort nodes to sink) (λ link at. (here, at))) w.items c.take_between.new.ins.items c.take_between.ensures.ins);
       };
-      left = if_ok_map (λ tokens. AtLinks (IsLeft tokens.items) v.items w.items c.args.from.link to.link) (λ tokens. LeftAt nodes e tokens.items c.args.from to) c.take_between.result
+      left = if_ok (λ tokens. AtLinks (IsLeft tokens.items) v.items w.items c.args.from.link to.link) (λ tokens. LeftAt nodes e tokens.items c.args.from to) c.take_between.result
           (λ tokens left. subst (λ ys. AtLinks (IsLeft tokens.items) (outs_at e s) ys c.args.from.link to.link) (sym b) (subst (λ xs. AtLinks (IsLeft tokens.items) xs w.items c.args.from.link to.link) (sym a) left))
           c.take_between.ensures.left;
     }

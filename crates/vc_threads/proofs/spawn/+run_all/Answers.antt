@@ -6,8 +6,8 @@ use Rattle.vc_threads.specs.Private.Jobs.{IsFit}
 use Rattle.vc_threads.specs.Jobs.{Ran}
 use Rattle.vc_threads.specs.declared.run.ActorRun.{ActorRun}
 use Rattle.vc_threads.proofs.Sent.{run_send}
-use Rattle.vc_threads.proofs.Zips.{zip_push}
 use Rattle.vc_threads.proofs.spawn.+run_all.Goals as goal
+use Rattle.vc_machine.proofs.Ways.{zip_push}
 
 pub spawn_with-started-requires-clause-runs : goal.spawn_with-started-requires-clause-runs
 spawn_with-started-requires-clause-runs g t c κs within =

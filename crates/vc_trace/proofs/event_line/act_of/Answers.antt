@@ -3,9 +3,10 @@ use Rattle.vc_actor.specs.declared.act.Act.TheVariants as act
 use Rattle.vc_trace.specs.EventText.{spaced}
 use Rattle.vc_trace.specs.Private.Verbs.{verb_word}
 use Rattle.vc_trace.specs.declared.verb.Verb.TheVariants.{Proc, Take, Put, Route, Fct, Pass}
-use Rattle.vc_trace.proofs.Found.{mapped, neither, only}
+use Rattle.vc_trace.proofs.Found.{mapped, neither}
 use Rattle.vc_trace.proofs.Verbs.{act_begins, fct_only, pass_only, proc_only, put_only, route_only, take_only, verb_of, word_of, words_of}
 use Rattle.vc_trace.proofs.event_line.act_of.Goals as goal
+use Rattle.vc_core.proofs.Turns.{same_some}
 
 pub returns-in_err-of : goal.returns-in_err-of
 returns-in_err-of c = λ p named done is whole.
@@ -20,7 +21,7 @@ returns-in-Proc c = λ p named done is whole.
     let word = word_of (verb_of done) in
     let verb = c.of.ensures (verb_of done) (c.next.ensures.word (verb_word (verb_of done)) (words_of p done) word text) in
     let rest = c.next.ensures.rest (verb_word (verb_of done)) (words_of p done) word text in
-    let same = only c.of.result (verb_of done) Proc verb (c.in_ok-of.was ∙ ap Some c.in-Proc.is) in
+    let same = same_some c.of.result (verb_of done) Proc verb (c.in_ok-of.was ∙ ap Some c.in-Proc.is) in
     proc_only p done c.map.result c.next.new.self.rest.now same is rest
     (λ made ok here. mapped c.move_of.result c.map.result act.Proc made c.map.ensures.cases (c.move_of.ensures p named made ok here))
 
@@ -30,7 +31,7 @@ returns-in-Take c = λ p named done is whole.
     let word = word_of (verb_of done) in
     let verb = c.of.ensures (verb_of done) (c.next.ensures.word (verb_word (verb_of done)) (words_of p done) word text) in
     let rest = c.next.ensures.rest (verb_word (verb_of done)) (words_of p done) word text in
-    let same = only c.of.result (verb_of done) Take verb (c.in_ok-of.was ∙ ap Some c.in-Take.is) in
+    let same = same_some c.of.result (verb_of done) Take verb (c.in_ok-of.was ∙ ap Some c.in-Take.is) in
     take_only p done c.take_in.result c.next.new.self.rest.now same is rest
     (λ link word byte long here. c.take_in.ensures link word byte long here)
 
@@ -40,7 +41,7 @@ returns-in_err-link-in-Put c = λ p named done is whole.
     let word = word_of (verb_of done) in
     let verb = c.of.ensures (verb_of done) (c.next.ensures.word (verb_word (verb_of done)) (words_of p done) word text) in
     let rest = c.next.ensures.rest (verb_word (verb_of done)) (words_of p done) word text in
-    let same = only c.of.result (verb_of done) Put verb (c.in_ok-of.was ∙ ap Some c.in-Put.is) in
+    let same = same_some c.of.result (verb_of done) Put verb (c.in_ok-of.was ∙ ap Some c.in-Put.is) in
     put_only p done c.from_residual-in_err-link-in-Put.result c.next.new.self.rest.now same is rest
     (λ link is_one here. absurd (neither c.byte_in.result link c.in_err-link-in-Put.was (c.byte_in.ensures link [] is_one here).0))
 
@@ -50,9 +51,9 @@ returns-in_ok-link-in-Put c = λ p named done is whole.
     let word = word_of (verb_of done) in
     let verb = c.of.ensures (verb_of done) (c.next.ensures.word (verb_word (verb_of done)) (words_of p done) word text) in
     let rest = c.next.ensures.rest (verb_word (verb_of done)) (words_of p done) word text in
-    let same = only c.of.result (verb_of done) Put verb (c.in_ok-of.was ∙ ap Some c.in-Put.is) in
+    let same = same_some c.of.result (verb_of done) Put verb (c.in_ok-of.was ∙ ap Some c.in-Put.is) in
     put_only p done (Some (act.Put c.in_ok-link-in-Put.link)) c.next.new.self.rest.now same is rest
-    (λ link is_one here. ap (λ x. Some (act.Put x)) (only c.byte_in.result c.in_ok-link-in-Put.link link c.in_ok-link-in-Put.was (c.byte_in.ensures link [] is_one here).0))
+    (λ link is_one here. ap (λ x. Some (act.Put x)) (same_some c.byte_in.result c.in_ok-link-in-Put.link link c.in_ok-link-in-Put.was (c.byte_in.ensures link [] is_one here).0))
 
 pub returns-in-Route : goal.returns-in-Route
 returns-in-Route c = λ p named done is whole.
@@ -60,7 +61,7 @@ returns-in-Route c = λ p named done is whole.
     let word = word_of (verb_of done) in
     let verb = c.of.ensures (verb_of done) (c.next.ensures.word (verb_word (verb_of done)) (words_of p done) word text) in
     let rest = c.next.ensures.rest (verb_word (verb_of done)) (words_of p done) word text in
-    let same = only c.of.result (verb_of done) Route verb (c.in_ok-of.was ∙ ap Some c.in-Route.is) in
+    let same = same_some c.of.result (verb_of done) Route verb (c.in_ok-of.was ∙ ap Some c.in-Route.is) in
     route_only p done c.route_in.result c.next.new.self.rest.now same is rest
     (λ input output byte other here. c.route_in.ensures input output byte other here)
 
@@ -70,7 +71,7 @@ returns-in_err-link-in-Fct c = λ p named done is whole.
     let word = word_of (verb_of done) in
     let verb = c.of.ensures (verb_of done) (c.next.ensures.word (verb_word (verb_of done)) (words_of p done) word text) in
     let rest = c.next.ensures.rest (verb_word (verb_of done)) (words_of p done) word text in
-    let same = only c.of.result (verb_of done) Fct verb (c.in_ok-of.was ∙ ap Some c.in-Fct.is) in
+    let same = same_some c.of.result (verb_of done) Fct verb (c.in_ok-of.was ∙ ap Some c.in-Fct.is) in
     fct_only p done c.from_residual-in_err-link-in-Fct.result c.next.new.self.rest.now same is rest
     (λ link is_one here. absurd (neither c.byte_in-in-Fct.result link c.in_err-link-in-Fct.was (c.byte_in-in-Fct.ensures link [] is_one here).0))
 
@@ -80,9 +81,9 @@ returns-in_ok-link-in-Fct c = λ p named done is whole.
     let word = word_of (verb_of done) in
     let verb = c.of.ensures (verb_of done) (c.next.ensures.word (verb_word (verb_of done)) (words_of p done) word text) in
     let rest = c.next.ensures.rest (verb_word (verb_of done)) (words_of p done) word text in
-    let same = only c.of.result (verb_of done) Fct verb (c.in_ok-of.was ∙ ap Some c.in-Fct.is) in
+    let same = same_some c.of.result (verb_of done) Fct verb (c.in_ok-of.was ∙ ap Some c.in-Fct.is) in
     fct_only p done (Some (act.Fct c.in_ok-link-in-Fct.link)) c.next.new.self.rest.now same is rest
-    (λ link is_one here. ap (λ x. Some (act.Fct x)) (only c.byte_in-in-Fct.result c.in_ok-link-in-Fct.link link c.in_ok-link-in-Fct.was (c.byte_in-in-Fct.ensures link [] is_one here).0))
+    (λ link is_one here. ap (λ x. Some (act.Fct x)) (same_some c.byte_in-in-Fct.result c.in_ok-link-in-Fct.link link c.in_ok-link-in-Fct.was (c.byte_in-in-Fct.ensures link [] is_one here).0))
 
 pub returns-in_err-link-in-Pass : goal.returns-in_err-link-in-Pass
 returns-in_err-link-in-Pass c = λ p named done is whole.
@@ -90,7 +91,7 @@ returns-in_err-link-in-Pass c = λ p named done is whole.
     let word = word_of (verb_of done) in
     let verb = c.of.ensures (verb_of done) (c.next.ensures.word (verb_word (verb_of done)) (words_of p done) word text) in
     let rest = c.next.ensures.rest (verb_word (verb_of done)) (words_of p done) word text in
-    let same = only c.of.result (verb_of done) Pass verb (c.in_ok-of.was ∙ ap Some c.in-Pass.is) in
+    let same = same_some c.of.result (verb_of done) Pass verb (c.in_ok-of.was ∙ ap Some c.in-Pass.is) in
     pass_only p done c.from_residual-in_err-link-in-Pass.result c.next.new.self.rest.now same is rest
     (λ link is_one here. absurd (neither c.byte_in-in-Pass.result link c.in_err-link-in-Pass.was (c.byte_in-in-Pass.ensures link [] is_one here).0))
 
@@ -100,6 +101,6 @@ returns-in_ok-link-in-Pass c = λ p named done is whole.
     let word = word_of (verb_of done) in
     let verb = c.of.ensures (verb_of done) (c.next.ensures.word (verb_word (verb_of done)) (words_of p done) word text) in
     let rest = c.next.ensures.rest (verb_word (verb_of done)) (words_of p done) word text in
-    let same = only c.of.result (verb_of done) Pass verb (c.in_ok-of.was ∙ ap Some c.in-Pass.is) in
+    let same = same_some c.of.result (verb_of done) Pass verb (c.in_ok-of.was ∙ ap Some c.in-Pass.is) in
     pass_only p done (Some (act.Pass c.in_ok-link-in-Pass.link)) c.next.new.self.rest.now same is rest
-    (λ link is_one here. ap (λ x. Some (act.Pass x)) (only c.byte_in-in-Pass.result c.in_ok-link-in-Pass.link link c.in_ok-link-in-Pass.was (c.byte_in-in-Pass.ensures link [] is_one here).0))
+    (λ link is_one here. ap (λ x. Some (act.Pass x)) (same_some c.byte_in-in-Pass.result c.in_ok-link-in-Pass.link link c.in_ok-link-in-Pass.was (c.byte_in-in-Pass.ensures link [] is_one here).0))

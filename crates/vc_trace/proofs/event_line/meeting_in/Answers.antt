@@ -2,8 +2,9 @@ use Rattle.std.proofs.Common.{◌∷◌, [], Some, ap, decimal, ◌∙◌}
 use Rattle.vc_plan.specs.Names.{channel_name}
 use Rattle.vc_occam.specs.declared.moves.Move.TheVariants.{Inner}
 use Rattle.vc_trace.specs.EventText.{guard_word}
-use Rattle.vc_trace.proofs.Found.{neither, only}
+use Rattle.vc_trace.proofs.Found.{neither}
 use Rattle.vc_trace.proofs.event_line.meeting_in.Goals as goal
+use Rattle.vc_core.proofs.Turns.{same_some}
 
 pub returns-in_err-sender : goal.returns-in_err-sender
 returns-in_err-sender c = λ p named from to on by is_from is_to is_guard is_channel whole.
@@ -37,7 +38,7 @@ returns c = λ p named from to on by is_from is_to is_guard is_channel whole.
     let receiver = c.half_in-2.ensures to (guard_word by ∷ channel_name p on ∷ []) is_to sender.1 in
     let guard = c.guard_in.ensures by (channel_name p on ∷ []) is_guard receiver.1 in
     let chan = c.channel_in.ensures p named on [] is_channel guard.1 in
-    ap (λ x. Some (Inner x c.in_ok-receiver.receiver c.in_ok-guard.guard c.in_ok-chan.chan)) (only c.half_in.result c.in_ok-sender.sender from c.in_ok-sender.was sender.0)
-    ∙ ap (λ x. Some (Inner from x c.in_ok-guard.guard c.in_ok-chan.chan)) (only c.half_in-2.result c.in_ok-receiver.receiver to c.in_ok-receiver.was receiver.0)
-    ∙ ap (λ x. Some (Inner from to x c.in_ok-chan.chan)) (only c.guard_in.result c.in_ok-guard.guard by c.in_ok-guard.was guard.0)
-    ∙ ap (λ x. Some (Inner from to by x)) (only c.channel_in.result c.in_ok-chan.chan on c.in_ok-chan.was chan.0)
+    ap (λ x. Some (Inner x c.in_ok-receiver.receiver c.in_ok-guard.guard c.in_ok-chan.chan)) (same_some c.half_in.result c.in_ok-sender.sender from c.in_ok-sender.was sender.0)
+    ∙ ap (λ x. Some (Inner from x c.in_ok-guard.guard c.in_ok-chan.chan)) (same_some c.half_in-2.result c.in_ok-receiver.receiver to c.in_ok-receiver.was receiver.0)
+    ∙ ap (λ x. Some (Inner from to x c.in_ok-chan.chan)) (same_some c.guard_in.result c.in_ok-guard.guard by c.in_ok-guard.was guard.0)
+    ∙ ap (λ x. Some (Inner from to by x)) (same_some c.channel_in.result c.in_ok-chan.chan on c.in_ok-chan.was chan.0)

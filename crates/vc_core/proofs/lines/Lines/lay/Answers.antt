@@ -4,10 +4,10 @@ use Rattle.vc_tokens.specs.CodeTokens.{tokens as all_spelt}
 use Rattle.vc_tokens.specs.declared.token.Token.{Token}
 use Rattle.vc_tokens.specs.declared.token.Token.TheVariants.{Byte}
 use Rattle.vc_core.specs.Private.Lines.{with_way}
-use Rattle.vc_core.proofs.Enablement.{has}
 use Rattle.vc_core.proofs.TokensOnWays.{none_laid, one_laid, stand_now, there_still}
 use Rattle.vc_core.proofs.ReplayRuns.{all_taken}
 use Rattle.vc_core.proofs.lines.Lines.lay.Goals as goal
+use Rattle.vc_switch.proofs.ListWrites.{some_at}
 
 pub loop-token-init : goal.loop-token-init
 loop-token-init c = record { within = c.requires; laid = none_laid c.args.self.now c.args.way }
@@ -20,7 +20,7 @@ loop-token-preserved c =
     let i = c.loop-token.token-index in
     let line = c.args.tokens.now in
     let t : Token = get_or line i (Byte 0) in
-    let here = has x.ways way c.loop-token.invariant.within in
+    let here = some_at x.ways way c.loop-token.invariant.within in
     let ok = c.in_ok-push.ensures.ok in
     record {
       within = there_still x c.push.new.self way way _ c.loop-token.invariant.within (ok here.0 here.1);

@@ -3,14 +3,14 @@ use Rattle.vc_tokens.specs.CodeTokens.{token as spelt}
 use Rattle.vc_core.specs.Lines.{Lined}
 use Rattle.vc_core.specs.Private.ByEnd.{ByEnd}
 use Rattle.vc_core.specs.Private.Lines.{LeadsTo, with_way}
-use Rattle.vc_core.proofs.Enablement.{has}
 use Rattle.vc_core.proofs.ByEnd.{actor_kept, actor_low, leads_there, link_low, same_way, token_came}
 use Rattle.vc_core.proofs.LineBits.{end_first}
 use Rattle.vc_core.proofs.lines.Lines.push.Goals as goal
+use Rattle.vc_switch.proofs.ListWrites.{some_at}
 
 pub push-requires : goal.push-requires
 push-requires c =
-    let here = has c.self.inside.ways.ways c.args.way (subst (λ (z : Lined). c.args.way < length z.ways) (sym c.self.view_is) c.requires) in
+    let here = some_at c.self.inside.ways.ways c.args.way (subst (λ (z : Lined). c.args.way < length z.ways) (sym c.self.view_is) c.requires) in
     record { way = c.args.way; tokens = here.0; leads = c.end-end.ensures; stand = here.1 }
 
 pub set-requires-clause-actor : goal.set-requires-clause-actor

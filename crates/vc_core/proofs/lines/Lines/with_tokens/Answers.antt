@@ -6,9 +6,9 @@ use Rattle.vc_tokens.specs.CodeTokens.{tokens as all_spelt}
 use Rattle.vc_core.specs.Lines.{Lined}
 use Rattle.vc_core.specs.Private.Lines.{with_way}
 use Rattle.vc_core.specs.Wiring.{AreWaysAt}
-use Rattle.vc_core.proofs.Enablement.{has}
 use Rattle.vc_core.proofs.TokensOnWays.{none_yet, one_more, all_laid}
 use Rattle.vc_core.proofs.lines.Lines.with_tokens.Goals as goal
+use Rattle.vc_switch.proofs.ListWrites.{some_at}
 
 pub loop-way-init : goal.loop-way-init
 loop-way-init c =
@@ -30,7 +30,7 @@ loop-way-preserved c =
     let less = c.loop-way-test.true in
     let count = c.loop-way.invariant.count in
     let within : n < length x.ways = omega (arith, less, count, c.requires.count) in
-    let here = has x.ways n within in
+    let here = some_at x.ways n within in
     let made = λ (ts : List Token) (stand : slice_get x.ways n ≡ Some ts). c.in_ok-lay.ensures ts stand ∙ ap (λ line. with_way x n (ts ++ all_spelt line)) c.as_slice.ensures.value in
     let is = made here.0 here.1 in
     record {

@@ -2,9 +2,10 @@ use Rattle.std.proofs.Common.{◌≡◌, ◌<◌, length, slice_get, slice_set, 
 use Rattle.std.proofs.lemmas.Option.{slice_get_read, slice_get_within}
 use Rattle.vc_vcp.proofs.ListWrites.{on_ok}
 use Rattle.vc_core.specs.State.{state_of, MakesEvent}
-use Rattle.vc_core.proofs.Events.{on_err, own_happens}
+use Rattle.vc_core.proofs.Events.{own_happens}
 use Rattle.vc_core.proofs.ActorLists.{is_there, may_there, unchanged}
 use Rattle.vc_core.proofs.network.Network.act.Goals as goal
+use Rattle.vc_core.proofs.ByEnd.{on_err}
 
 pub index_mut-requires : goal.index_mut-requires
 index_mut-requires c =

@@ -6,10 +6,11 @@ use Rattle.vc_core.specs.Private.Lines.{with_way}
 use Rattle.vc_core.specs.Wiring.{Comes}
 use Rattle.vc_core.specs.State.{state_of, HasWay}
 use Rattle.vc_actor.specs.declared.act.Act.TheVariants as act
-use Rattle.vc_core.proofs.Events.{placed, written_back}
+use Rattle.vc_core.proofs.Events.{placed}
 use Rattle.vc_core.proofs.Awake.{put_came, put_stands, put_wakes}
 use Rattle.vc_core.proofs.LineBits.{err_all}
 use Rattle.vc_core.proofs.network.Network.put.Goals as goal
+use Rattle.vc_vcp.proofs.ListWrites.{set_back}
 
 pub put-requires-clause-may : goal.put-requires-clause-may
 put-requires-clause-may c =
@@ -78,7 +79,7 @@ returns-in_err-to-clause-refused c =
     let less = subst (λ z. z < length n.actors.items) (sym c.from.ensures) (slice_get_within n.actors.items e.actor m.actor m.here) in
     let read = slice_get_read n.actors.items (length n.actors.items) c.from.result x refl less c.index_mut-from.ensures.value in
     let same = c.in_err-to.ensures.err in
-    err_all c.from_residual.result (λ i. record { actors = written_back n.actors.items c.from.result x c.put.new.from read same.0 i; nodes = n.nodes; ways = (same.1 i).ways; wiring = (same.1 i).wiring; wires = n.wires; channels = n.channels.items })
+    err_all c.from_residual.result (λ i. record { actors = set_back n.actors.items c.from.result x c.put.new.from read same.0 i; nodes = n.nodes; ways = (same.1 i).ways; wiring = (same.1 i).wiring; wires = n.wires; channels = n.channels.items })
 
 pub returns-in_err-to-clause-none_wakes : goal.returns-in_err-to-clause-none_wakes
 returns-in_err-to-clause-none_wakes c = err_all c.from_residual.result refl

@@ -1,9 +1,9 @@
 use Rattle.std.proofs.Common.{◌<◌, length, map, sym, ap, ◌∙◌, subst}
 use Rattle.vc_core.specs.Private.Wiring.{AreEnds, AreFar, AreRooms, far_end_of}
-use Rattle.vc_core.proofs.Enablement.{has}
 use Rattle.vc_core.proofs.ByEnd.{are_far}
 use Rattle.vc_core.proofs.WaysOut.{are_ends, ends_count, one_link}
 use Rattle.vc_core.proofs.wiring.Wiring.new.Goals as goal
+use Rattle.vc_switch.proofs.ListWrites.{some_at}
 
 pub invariant_of-result : goal.invariant_of-result
 invariant_of-result c =
@@ -26,6 +26,6 @@ returns-clause-into c = λ way less.
     let p = c.args.plan.now in
     let ends = c.in_ok-ends.ends.items in
     let long = ap length c.in_ok-ends.ensures ∙ ends_count (length p.nodes) p.wires in
-    let e = has ends way (subst (λ n. way < n) (sym long) less) in
+    let e = some_at ends way (subst (λ n. way < n) (sym long) less) in
     let are = subst (AreEnds c.in_ok-out.out.items) (sym c.in_ok-ends.ensures) (are_ends p c.requires c.in_ok-out.out.items c.in_ok-out.ensures.tells) in
     (e.0.actor, e.0.link, (are e.0.actor e.0.link way).1 e.1)

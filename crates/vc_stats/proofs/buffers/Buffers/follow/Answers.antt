@@ -1,10 +1,11 @@
 use Rattle.std.proofs.Common.{◌∙◌, sym, ap, arith}
 use Rattle.std.proofs.lemmas.Bool.Decides.{nat_tests}
 use Rattle.std.proofs.lemmas.Result.{on_ok_weaker}
+use Rattle.std.proofs.lemmas.Option.{same_Some}
 use Rattle.vc_core.specs.Links.{buffered_in}
 use Rattle.vc_core.specs.State.{event_of, shown, state_of}
 use Rattle.vc_stats.proofs.Acts.{buffers_by}
-use Rattle.vc_stats.proofs.RunStates.{buffers_hold, buffers_still, some_same}
+use Rattle.vc_stats.proofs.RunStates.{buffers_hold, buffers_still}
 use Rattle.vc_stats.proofs.buffers.Buffers.follow.Goals as goal
 
 pub returns-in_default : goal.returns-in_default
@@ -18,7 +19,7 @@ returns-then-from-ge-LINKS c = λ p xs s are many made.
     let from = c.from.ensures in
     let past = c.if-from-ge-LINKS.true in
     buffers_still p c.args.self.now xs (shown s) (shown (state_of c.args.network.now)) (event_of e) are made.happens (λ l less is.
-    let same = some_same c.in-Some.link l (c.in-Some.ensures ∙ sym (buffers_by e.act) ∙ is) in grind (arith, nat_tests))
+    let same = same_Some c.in-Some.link l (c.in-Some.ensures ∙ sym (buffers_by e.act) ∙ is) in grind (arith, nat_tests))
 
 pub returns : goal.returns
 returns c = on_ok_weaker c.hold.result (λ after p xs s are many made.

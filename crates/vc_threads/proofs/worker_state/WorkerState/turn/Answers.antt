@@ -4,9 +4,10 @@ use Rattle.vc_threads.specs.Wires.{InLooked, Distinct}
 use Rattle.vc_threads.specs.declared.run.Stop.TheVariants.{Turns, Gate, Clock, Memory}
 use Rattle.vc_threads.specs.Private.Works.{Seen, CanTake, worker_state}
 use Rattle.vc_threads.proofs.Goings.{stays_same, turn_looked, stop_looked, looked_in_links}
-use Rattle.vc_threads.proofs.Outcomes.{if_ok_map, if_err_map}
+use Rattle.vc_threads.proofs.Outcomes.{if_err_map}
 use Rattle.vc_threads.proofs.Backs.{same_back, zip_back}
 use Rattle.vc_threads.proofs.worker_state.WorkerState.turn.Goals as goal
+use Rattle.vc_actor.proofs.Turns.{if_ok}
 
 pub returns-then-capacity-len-clause-stop : goal.returns-then-capacity-len-clause-stop
 returns-then-capacity-len-clause-stop c = record {
@@ -28,7 +29,7 @@ returns-in-Some-clause-turn c =
     let ins = a.ins in
     let z = zip_back InLooked ins.len ins.items c.as_mut_slice.result.now c.find_in.new.ins ins.ok.0 c.as_mut_slice.ensures.value c.find_in.ensures.looked in
     let mid : Seen = record (worker_state a) { ins = take ins.len (c.find_in.new.ins ++ drop (length c.find_in.new.ins) ins.items) } in
-    if_ok_map _ _ c.take_from.result (λ rested. turn_looked mid (worker_state c.take_from.new.self) ins.items rested z) c.take_from.ensures.turn
+    if_ok _ _ c.take_from.result (λ rested. turn_looked mid (worker_state c.take_from.new.self) ins.items rested z) c.take_from.ensures.turn
 
 pub returns-in-Some-clause-stop : goal.returns-in-Some-clause-stop
 returns-in-Some-clause-stop c =
@@ -44,7 +45,7 @@ returns-in-None-clause-turn c =
     let ins = a.ins in
     let z = zip_back InLooked ins.len ins.items c.as_mut_slice.result.now c.find_in.new.ins ins.ok.0 c.as_mut_slice.ensures.value c.find_in.ensures.looked in
     let mid : Seen = record (worker_state a) { ins = take ins.len (c.find_in.new.ins ++ drop (length c.find_in.new.ins) ins.items) } in
-    if_ok_map _ _ c.make_turn.result (λ rested. turn_looked mid (worker_state c.make_turn.new.self) ins.items rested z) c.make_turn.ensures.turn
+    if_ok _ _ c.make_turn.result (λ rested. turn_looked mid (worker_state c.make_turn.new.self) ins.items rested z) c.make_turn.ensures.turn
 
 pub returns-in-None-clause-stop : goal.returns-in-None-clause-stop
 returns-in-None-clause-stop c =

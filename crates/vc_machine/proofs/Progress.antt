@@ -1,10 +1,12 @@
--- Wherever a run has come on an accepted network with ranks, some token can move, or nothing can happen but moves of processes.
+-- Wherever a run has come on an accepted network with ranks, some token can move, or nothing can happen but moves of processes; then
+-- nothing is under way.
 --
 -- It is found in stages, over all ways: a token that can be taken, one that can pass, an FCT that can be put, and a token of a packet that
 -- can be put, from the lesser ranks up; then a packet that can be routed, from the greater ranks down. Where no stage finds one,
 -- each way is clear.
 use Rattle.std.proofs.Common.{◌≡◌, ◌⊎◌, ℕ, zero, suc, ◌+◌, ◌<◌, ◌≤◌, inl, inr, List, [], ◌∷◌, ◌++◌, length, refl, sym, ap, subst, ◌∙◌, arith, Option, Some, None, append-nil, append_assoc}
 use Rattle.std.proofs.lemmas.Bool.{cases_lt, cases_eq}
+use Rattle.std.proofs.lemmas.Option.{same_Some, none-some}
 use Rattle.vc_packets.specs.declared.mark.Mark.{Mark}
 use Rattle.vc_packets.specs.declared.packet.Packet.{Packet}
 use Rattle.vc_packets.specs.Headers.{spelled}
@@ -22,13 +24,14 @@ use Rattle.vc_machine.specs.Dependencies.{Depends, HasRanks}
 use Rattle.vc_machine.specs.Still.{MovesTokens, IsStill, IsClear, BackStays}
 use Rattle.vc_machine.proofs.Ways.{front_of}
 use Rattle.vc_machine.proofs.Moves.{drawn_on, has_way}
-use Rattle.vc_machine.proofs.Spellings.{fcts-append, mark_in_bytes}
-use Rattle.vc_machine.proofs.TokenCover.{onward}
+use Rattle.vc_tokens.proofs.Spellings.{fcts-append, mark_in_bytes}
 use Rattle.vc_machine.proofs.Heads.{headed_is, inside_node, inside_unmarked, inside_marked, longer, no_group, same_switch, group_of}
 use Rattle.vc_machine.proofs.ViewChanges.{front_packet}
 use Rattle.vc_machine.proofs.Ahead.{Sending, queued, bound}
-use Rattle.vc_machine.proofs.Cover.{spelled_behind}
-use Rattle.vc_machine.proofs.Still.{Standing, taken_whole, depends, bounded}
+use Rattle.vc_machine.proofs.Cover.{onward, spelled_behind}
+use Rattle.vc_machine.proofs.Standing.{Standing, taken_whole, depends, bounded}
+use Rattle.vc_machine.proofs.Functional.{fcts_bytes, fcts_spellings}
+use Rattle.vc_machine.proofs.Ports.{not_both}
 
 -- ---- what is found, or holds of all
 
@@ -48,26 +51,13 @@ each {R} {P} (suc n) f = chain (each n (λ w h. f w (omega arith))) (λ before. 
 
 -- ---- lists of tokens
 
-bytes_fcts : (bs : List ℕ) → fcts (bytes bs) ≡ 0
-bytes_fcts [] = refl
-bytes_fcts (b ∷ bs) = bytes_fcts bs
-
-spellings_fcts : (ps : List Packet) → fcts (spellings ps) ≡ 0
-spellings_fcts [] = refl
-spellings_fcts (p ∷ ps) =
-    let a : fcts (spellings (p ∷ ps)) ≡ fcts (spelling p) + fcts (spellings ps) = fcts-append (spelling p) (spellings ps) in
-    let b : fcts (spelling p) ≡ fcts (bytes p.body) + 0 = fcts-append (bytes p.body) (EndMark p.mark ∷ []) in
-    let c = bytes_fcts p.body in
-    let d = spellings_fcts ps in
-    omega arith
-
 no_fct_among : (bs : List ℕ) (xs : List Token) (ps : List Packet) (rest : List ℕ) → bytes bs ++ Fct ∷ xs ≡ spellings ps ++ bytes rest → ⊥
 no_fct_among bs xs ps rest e =
     let a : fcts (bytes bs ++ Fct ∷ xs) ≡ fcts (bytes bs) + suc (fcts xs) = fcts-append (bytes bs) (Fct ∷ xs) in
     let b = fcts-append (spellings ps) (bytes rest) in
     let c = ap fcts e in
-    let d = spellings_fcts ps in
-    let f = bytes_fcts rest in
+    let d = fcts_spellings ps in
+    let f = fcts_bytes rest in
     omega arith
 
 same_bytes : (as' bs : List ℕ) → bytes as' ≡ bytes bs → as' ≡ bs
@@ -90,21 +80,17 @@ may_go : (waiting : Waiting) (m : Mark) → MayGo waiting (Some m)
 may_go StoreAndForward m = tt
 may_go Wormhole m = tt
 
-not_node : (n i k l : ℕ) → AtNode n i ≡ AtSwitch k l → ⊥
-not_node n i k l e = cc
-
-none_some : (x : ℕ) → None ≡ Some x → ⊥
-none_some x e = cc
-
-same_some : (x y : ℕ) → Some x ≡ Some y → x ≡ y
-same_some x y e = cc
-
 -- a token can move
 pub record Progress (net : Net) (back : ℕ → ℕ) (waiting : Waiting) (t : Tokens) : Type 0 where
   pub event : TokenEvent
   pub new : Tokens
   pub moves : MovesTokens event
   pub step : TokenStep net back waiting t event new
+
+-- no token can move, and each way is clear
+pub record IsAtRest (net : Net) (back : ℕ → ℕ) (waiting : Waiting) (t : Tokens) : Type 0 where
+  pub still : IsStill net back waiting t
+  pub clear : (w : ℕ) → w < net.ways → IsClear net t w
 
 -- way x can carry a token, and no packet is being put on it
 record IsUnused (net : Net) (t : Tokens) (x : ℕ) : Type 0 where
@@ -197,7 +183,7 @@ module _ (net : Net) (back : ℕ → ℕ) (waiting : Waiting) (most : ℕ) (t : 
         by_mark n i far None e = chain (switch_passes w n i real far e)
             (λ (empty : (t.receiver w).buffer ≡ []). inr (record { node = λ k l at. empty; switch = λ k l at none. empty }))
         by_mark n i far (Some m) e = inr (record {
-          node = λ k l at. absurd (not_node k l n i (sym at ∙ far));
+          node = λ k l at. absurd (not_both k l n i (sym at ∙ far));
           switch = λ k l at none. absurd (let q : None ≡ Some m = sym none ∙ e in cc);
         })
 
@@ -277,10 +263,10 @@ module _ (net : Net) (back : ℕ → ℕ) (waiting : Waiting) (most : ℕ) (t : 
       nobody_bound x real some before v there = by_bound (t.receiver v).bound refl
         where
           by_bound : (b : Option ℕ) → (t.receiver v).bound ≡ b → Found ⊎ ((t.receiver v).bound ≡ Some x → ⊥)
-          by_bound None e = inr (λ q. none_some x (sym e ∙ q))
+          by_bound None e = inr (λ q. none-some x (sym e ∙ q))
           by_bound (Some y) e = elim (cases_eq y x) [
             | inl same ↦ inl (bound_puts x v real there some (e ∙ ap Some same) before)
-            | inr other ↦ inr (λ q. other (same_some y x (sym e ∙ q)))
+            | inr other ↦ inr (λ q. other (same_Some y x (sym e ∙ q)))
           ]
 
       queue_put : (x : ℕ) → x < net.ways → 0 < (t.sender x).credit → Found ⊎ ((n i : ℕ) → net.near x ≡ AtNode n i → (t.nodes.ways x).queue ≡ [])
@@ -292,7 +278,7 @@ module _ (net : Net) (back : ℕ → ℕ) (waiting : Waiting) (most : ℕ) (t : 
 
           by_port : (p : Port) → net.near x ≡ p → Found ⊎ ((n i : ℕ) → net.near x ≡ AtNode n i → (t.nodes.ways x).queue ≡ [])
           by_port (AtNode n i) near = by_queue n i near (t.nodes.ways x).queue refl
-          by_port (AtSwitch n i) near = inr (λ m j at. absurd (not_node m j n i (sym at ∙ near)))
+          by_port (AtSwitch n i) near = inr (λ m j at. absurd (not_both m j n i (sym at ∙ near)))
 
       is_unused : (x : ℕ) → ((v : ℕ) → v < net.ways → (t.receiver v).bound ≡ Some x → ⊥) → ((n i : ℕ) → net.near x ≡ AtNode n i → (t.nodes.ways x).queue ≡ []) → IsUnused net t x
       is_unused x nobody queue = record {
@@ -432,8 +418,8 @@ module _ (net : Net) (back : ℕ → ℕ) (waiting : Waiting) (most : ℕ) (t : 
           no_put : (w : ℕ) (u : Tokens) → w < net.ways → tok.Puts net waiting t w u → ⊥
           no_put w u real (tok.node_byte n i p rest b more near front is after) = let e : p ∷ rest ≡ [] = sym front ∙ (clear w real).queue n i near in cc
           no_put w u real (tok.node_mark n i p rest near front is after) = let e : p ∷ rest ≡ [] = sym front ∙ (clear w real).queue n i near in cc
-          no_put w u real (tok.switch_byte n v d b more h is after) = none_some w (sym (clear v h.real).bound ∙ h.bound)
-          no_put w u real (tok.switch_mark n v d m h mark is after) = none_some w (sym (clear v h.real).bound ∙ h.bound)
+          no_put w u real (tok.switch_byte n v d b more h is after) = none-some w (sym (clear v h.real).bound ∙ h.bound)
+          no_put w u real (tok.switch_mark n v d m h mark is after) = none-some w (sym (clear v h.real).bound ∙ h.bound)
 
           no_pass : (w : ℕ) (u : Tokens) → w < net.ways → tok.Passes net t w u → ⊥
           no_pass w u real (tok.node_byte n i b rest far front after) = let e : Byte b ∷ rest ≡ [] = sym front ∙ (clear w real).buffer in cc
@@ -449,8 +435,11 @@ module _ (net : Net) (back : ℕ → ℕ) (waiting : Waiting) (most : ℕ) (t : 
           still (PutFct w) u own h = let few = grants w h.real in let room = h.room in omega arith
           still (Route w out) u own h = no_group net h.switch out h.body (subst (λ b. BodyLeaves net h.switch b out h.body) (clear w h.real).got h.group)
 
-  -- a token can move, or none can
-  pub goes_on : Found ⊎ IsStill net back waiting t
+  -- a token can move, or none can, and nothing is under way
+  pub goes_on : Found ⊎ IsAtRest net back waiting t
   goes_on = chain (each net.ways taken_from) (λ wires. chain (each net.ways (passed_from wires)) (λ passes. chain (each net.ways granted)
       (λ grants. chain (unused_below wires passes grants (suc (top wires passes grants)))
-      (λ unused. chain (settled_above wires passes grants unused (suc (top wires passes grants))) (λ settled. inr (still wires passes grants unused settled))))))
+      (λ unused. chain (settled_above wires passes grants unused (suc (top wires passes grants))) (λ settled. inr (record {
+        still = still wires passes grants unused settled;
+        clear = clear wires passes grants unused settled;
+      }))))))
