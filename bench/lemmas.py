@@ -2,8 +2,8 @@
 """Tells which lemmas say the same: bench/lemmas.py [MOST].
 
 Two lemmas of the crates' proofs say the same where their statements differ in the names of their variables alone. A lemma that std
-has under `std/proofs` is named, too. The groups with the most lines to save come first. A lemma can be shared by crates of which
-one stands on the other: it is made `pub` in the lower one.
+has under `std/proofs` is named, too. It shows the groups with the most lines to save, 40 or MOST of them. A lemma can be shared by
+crates of which one stands on the other: it is made `pub` in the lower one.
 
 Made with rattle-kit-13f, logic dac8208d650f15bf.
 """
