@@ -28,11 +28,11 @@ use Rattle.vc_accepted.proofs.Determinate.{one_state, stay_lawful}
 use Rattle.vc_accepted.proofs.Processes.{begins_good}
 
 -- an actor whose process, if it has one, is lawful
-abbrev LawfulActor : Actor Process → Type 0
+abbrev pub LawfulActor : Actor Process → Type 0
 LawfulActor (IsNode n) = IsLawful n.process
 LawfulActor (IsSwitch s) = Unit {0}
 
-abbrev AllLawful : Network (Actor Process) Token → Type 0
+abbrev pub AllLawful : Network (Actor Process) Token → Type 0
 AllLawful s = (k : ℕ) → LawfulActor (s.state k)
 
 module _ (plan : network.Plan) (waiting : Waiting) where
@@ -68,7 +68,7 @@ module _ (plan : network.Plan) (waiting : Waiting) where
       let n = local_on k old (plain t.it) mid step l in
       (mid, n.0, at, stamp, run_on k t.at mid ts new rest n.1)
 
-  happens_on : (old : Network (Actor Process) Token) (e : ActBy Act) (new : Network (Actor Process) Token) → Happens plan waiting does old e new → AllLawful old → Happens plan waiting proceeds old e new × AllLawful new
+  pub happens_on : (old : Network (Actor Process) Token) (e : ActBy Act) (new : Network (Actor Process) Token) → Happens plan waiting does old e new → AllLawful old → Happens plan waiting proceeds old e new × AllLawful new
   happens_on old e new (label, is, step) l =
       let n = local_on e.actor (old.state e.actor) label (new.state e.actor) step.local (l e.actor) in (
         (label, is, record { local = n.0; others = step.others; ways = step.ways }),
@@ -116,7 +116,7 @@ module _ (plan : network.Plan) (waiting : Waiting) where
 begins_lawful : (p : Plan) → IsAccepted p → (n : ℕ) → n < length p.nodes → IsLawful (begin_of p n)
 begins_lawful p acc n less = record { uses = (begins_good p acc n less).lawful; sites = at_first (node_plan p n).process }
 
-first_lawful : (p : Plan) → IsAccepted p → (k : ℕ) → LawfulActor (first (network_of p) (begin_of p) k)
+pub first_lawful : (p : Plan) → IsAccepted p → (k : ℕ) → LawfulActor (first (network_of p) (begin_of p) k)
 first_lawful p acc k = elim (cases_lt k (length p.nodes)) [
   | inl less ↦ (let is : nat_lt k (length p.nodes) ≡ true = grind (arith, nat_tests) in rw is (begins_lawful p acc k less))
   | inr past ↦ (let not : nat_lt k (length p.nodes) ≡ false = grind (arith, nat_tests) in rw not tt)

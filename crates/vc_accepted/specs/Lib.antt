@@ -1,3 +1,4 @@
+pub mod Alone
 pub mod ActorWays
 pub mod Begin
 pub mod Bounds

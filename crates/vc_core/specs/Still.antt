@@ -50,13 +50,13 @@ pub record AllIsHeld {P : Type 0} (plan : Plan) (s : Network (Actor P) Token) : 
   pub packets : (x : Place × Packet) → Contains (everywhere plan s) x → IsHeld x.0
   pub ways : (w : ℕ) → w < ways plan → s.way w ≡ []
 
--- a packet is held at the inputting end of channel c, where no process inputs
+-- a packet is held at the inputting end of channel c, where no input has begun
 pub record IsUnasked {P : Type 0} (plan : Plan) (s : Network (Actor P) Token) (c : ℕ) : Type 0 where
   pub packet : Packet
   pub held : ((vcps s (sink_node plan (home plan c))).carrier.into c).held ≡ Some packet
   pub unasked : ((vcps s (sink_node plan (home plan c))).carrier.into c).wants ≡ false
 
--- Every packet is held at its receiver, and no way carries a token. The packet of each unfinished output is held where no process inputs.
+-- Every packet is held at its receiver, and no way carries a token. The packet of each unfinished output is held where no input has begun.
 pub record IsHeldUp (p : Given) (x : NetworkState) : Type 0 where
   pub packets : AllIsHeld (network_of p) x
   pub outputs : (c v : ℕ) (ab : Bool) → home (network_of p) c ≡ Way v ab → c < length (network_of p).channels →

@@ -10,8 +10,8 @@ pub fn events_lead_on()
 {}
 
 /// In a network whose dependencies have no cycle, wherever a run has come: where no event can happen but moves of processes, every
-/// packet is held at its receiver, and the packet of each unfinished output where no process inputs on its channel. So a network that
-/// is quiet is so because of its processes alone.
+/// packet is held at its receiver, and the packet of each unfinished output is held where no input on its channel has begun. So a
+/// network that is quiet is so because of its processes alone.
 #[tactic(auto, using(crate::proofs::Still::only_processes_hold))]
 pub fn only_processes_hold_it_up()
     ensures { OnlyProcessesHold }

@@ -13,3 +13,15 @@ pub mod Inverse
 pub mod PartTraces
 pub mod Converse
 pub mod Placements
+pub mod Delays
+pub mod Begun
+pub mod PutOff
+pub mod Nexts
+pub mod StepsSaid
+pub mod NodePaths
+pub mod LinearizesWith
+pub mod Fins
+pub mod RestKnown
+pub mod Rest
+pub mod Quiet
+pub mod NeverStuck

@@ -1,5 +1,5 @@
 -- What one placement of a program did has a linearization, and that a free placement of it does.
-use Rattle.std.proofs.Common.{◌≡◌, ℕ, ◌<◌, inl, inr, sym, subst, ◌∙◌, List, length, arith}
+use Rattle.std.proofs.Common.{◌≡◌, ℕ, ◌<◌, inl, inr, sym, subst, subst₂, ◌∙◌, List, length, map, arith}
 use Rattle.std.proofs.lemmas.Bool.{cases_lt}
 use Rattle.vc_accepted.specs.Begin.{node_plan, begin_of}
 use Rattle.vc_accepted.specs.NetworkOf.{network_of}
@@ -7,14 +7,14 @@ use Rattle.vc_accepted.specs.OneList.{by}
 use Rattle.vc_accepted.specs.Process.{Process}
 use Rattle.vc_free.proofs.Converse.{ended_done}
 use Rattle.vc_free.proofs.Atomics.{do_all}
-use Rattle.vc_free.specs.Placements.{IsOtherPlacement, FreePlacementsDoTheSame}
+use Rattle.vc_free.specs.Placements.{SameProgram, IsOtherPlacement, FreePlacementsDoTheSame}
 use Rattle.vc_network.specs.Actors.{Network}
 use Rattle.vc_network.specs.Network.{Node, Actor}
 use Rattle.vc_network.specs.Views.{view}
 use Rattle.vc_occam.specs.Remains.{Done}
-use Rattle.vc_occam.specs.Traces.{End, Open, Trace}
+use Rattle.vc_occam.specs.Opening.{empty_of}
+use Rattle.vc_occam.specs.Traces.{Comm, End, Open, Trace}
 use Rattle.vc_placement.proofs.Networks.{invisible}
-use Rattle.vc_placement.proofs.SameProgram.{one_meaning}
 use Rattle.vc_placement.proofs.OneNode.{same_node}
 use Rattle.vc_placement.specs.Linearization.{Atomic, all_comms, completed}
 use Rattle.vc_placement.specs.OneNode.{HaveEnded}
@@ -22,7 +22,14 @@ use Rattle.vc_placement.specs.Parallel.{IsEnded}
 use Rattle.vc_placement.specs.Placement.{IsLinearizationOf}
 use Rattle.vc_plan.specs.declared.plan.Plan.{Plan}
 use Rattle.vc_process.specs.Numbering.{written}
+use Rattle.vc_process.specs.Terms.{store}
 use Rattle.vc_tokens.specs.Tokens.{Token}
+
+-- what node n of one plan does is a trace of the other's node
+other_trace : (p q : Plan) (n : ℕ) (ks : List Comm) (x : End) → SameProgram p q → n < length p.nodes
+    → Trace (written (node_plan p n).process) (begin_of p n).state.store ks x
+    → Trace (written (node_plan q n).process) (begin_of q n).state.store ks x
+other_trace p q n ks x same less can = subst₂ (λ r k. Trace (written r) (store (map empty_of k)) ks x) (same.process n less) (same.kinds n less) can
 
 module _ (p q : Plan) (s : Network (Actor Process) Token) (hs : List Atomic) (same : IsOtherPlacement p q) (told : IsLinearizationOf p s hs) where
   -- what node n may do in the other plan, and how it ends
@@ -34,10 +41,10 @@ module _ (p q : Plan) (s : Network (Actor Process) Token) (hs : List Atomic) (sa
   its_part : (n : ℕ) → n < length p.nodes → Part n
   its_part n less =
       let t = told.by_node n less in
-      let can = one_meaning p q n (by n (all_comms hs)) t.0.process.state same.program less t.2 in
+      let can = t.2 in
       record {
         end = can.0;
-        trace = λ l. can.1;
+        trace = λ l. other_trace p q n (by n (all_comms hs)) can.0 same.program less can.1;
         ended = λ l h. (let e = h n less in let is = same_node e.0 t.0 (sym e.1 ∙ t.1) in (t.0.process.state.store, can.2 (subst (λ (z : Node Process). z.process.state.rest ≡ Done) is e.2)));
       }
 

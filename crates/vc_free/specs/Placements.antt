@@ -5,15 +5,20 @@ use Rattle.vc_network.specs.Network.{Act, Actor, begins, HappenAll}
 use Rattle.vc_network.specs.Views.{view}
 use Rattle.vc_placement.specs.Linearization.{completed}
 use Rattle.vc_placement.specs.OneNode.{HaveEnded}
-use Rattle.vc_placement.specs.SameProgram.{SameProgram}
 use Rattle.vc_plan.specs.Accepted.{IsAccepted}
 use Rattle.vc_plan.specs.Dependencies.{HasRanks}
+use Rattle.vc_plan.specs.Limits.{kinds_of}
 use Rattle.vc_plan.specs.declared.plan.Plan.{Plan}
-use Rattle.vc_accepted.specs.Begin.{begin_of}
+use Rattle.vc_accepted.specs.Begin.{node_plan, begin_of}
 use Rattle.vc_accepted.specs.NetworkOf.{network_of}
 use Rattle.vc_accepted.specs.Process.{Process, does}
 use Rattle.vc_switch.specs.Waiting.{Waiting}
 use Rattle.vc_tokens.specs.Tokens.{Token}
+
+-- two plans of one program: each node has the same process, over variables of the same kinds, whatever carries its channels
+pub record SameProgram (p q : Plan) : Type 0 where
+  pub process : (n : ℕ) → n < length p.nodes → (node_plan p n).process ≡ (node_plan q n).process
+  pub kinds : (n : ℕ) → n < length p.nodes → kinds_of (node_plan p n).vars ≡ kinds_of (node_plan q n).vars
 
 -- the plans have as many nodes, with the same processes, and as many channels
 pub record IsOtherPlacement (p q : Plan) : Type 0 where

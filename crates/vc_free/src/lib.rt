@@ -9,12 +9,14 @@
 
 ghost use Rattle.vc_free.specs.Converse.{NetworkRunsIt};
 ghost use Rattle.vc_free.specs.Delivery.{FreeNetworksDeliver};
+ghost use Rattle.vc_free.specs.NeverStuck.{NeverStuckAnywhere};
 ghost use Rattle.vc_free.specs.Placements.{FreePlacementsDoTheSame};
+ghost use Rattle.vc_free.specs.Rest.{QuietNetworksAreQuiet};
 ghost use Rattle.vc_free.specs.Together.{FreeNetworksDoAll};
 
 /// Wherever an accepted plan's network has come, under either waiting rule, and if its ports have ranks: there are events without moves
-/// of processes, after which nothing but processes can go on. Then no way carries a token, each message is through whose receiver
-/// inputs, and every other packet is held where no process inputs.
+/// of processes, after which nothing but processes can go on. Then no way carries a token. Each message is taken and finished if an
+/// input of it has begun, and every other packet is held at its receiver, where no input has begun.
 pub fn a_free_network_delivers()
     ensures { FreeNetworksDeliver }
 {}
@@ -38,4 +40,19 @@ pub fn the_network_runs_it()
 /// all had.
 pub fn free_placements_do_the_same()
     ensures { FreePlacementsDoTheSame }
+{}
+
+/// Where no event can happen on an accepted plan's network, under either waiting rule, if its ports have ranks, its processes stand still
+/// side by side as well: what the network did has a linearization, by whose steps each process comes to where it stands on the network,
+/// but for outputs that have begun and inputs that wait. There no site can go on by itself, and no two can communicate but on a channel
+/// that is stopped. So a free network is stuck only where one transputer could be.
+pub fn a_quiet_free_network_is_quiet()
+    ensures { QuietNetworksAreQuiet }
+{}
+
+/// A program that cannot get stuck, its processes side by side on one transputer, gets stuck on no free placement. Where its processes
+/// cannot come to rest unless all have ended, and no event can happen any more on the network of an accepted placement whose ports have
+/// ranks, all processes have ended there.
+pub fn never_stuck_anywhere()
+    ensures { NeverStuckAnywhere }
 {}

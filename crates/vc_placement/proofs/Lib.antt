@@ -9,8 +9,8 @@ pub mod Interleavings
 pub mod Networks
 pub mod OneNode
 pub mod OneNodeRuns
-pub mod SameProgram
 pub mod Kept
 pub mod LawfulKept
 pub mod Ends
 pub mod Main
+pub mod Nesting

@@ -2,5 +2,5 @@ pub mod Linearization
 pub mod Parallel
 pub mod Placement
 pub mod OneNode
-pub mod SameProgram
 pub mod Fits
+pub mod Nesting

@@ -9,10 +9,10 @@
 
 ghost use Rattle.vc_placement.specs.Fits.{OneNodeIsAccepted, OnlySizesRefuseIt};
 ghost use Rattle.vc_placement.specs.Linearization.{EveryHistoryLinearizes};
+ghost use Rattle.vc_placement.specs.Nesting.{GroupingChangesNothing, NestingChangesNothing};
 ghost use Rattle.vc_placement.specs.OneNode.{OneNodeCanDoIt, OneNodeRunsIt};
 ghost use Rattle.vc_placement.specs.Parallel.{AllIsOneTrace};
 ghost use Rattle.vc_placement.specs.Placement.{PlacementIsInvisible};
-ghost use Rattle.vc_placement.specs.SameProgram.{OneProgramOneMeaning};
 
 /// What processes did over channels that hold an output until it is taken has a linearization: each message passes at one moment, and
 /// on each channel the same messages are taken.
@@ -45,12 +45,6 @@ pub fn one_node_runs_it()
     ensures { OneNodeRunsIt }
 {}
 
-/// Of two plans of one program, with other wires, switches, labels and homes of channels: what a node of the one can perform, the node
-/// of the other can perform.
-pub fn one_program_one_meaning()
-    ensures { OneProgramOneMeaning }
-{}
-
 /// The checker accepts the plan of one node exactly where the nodes have at most 64 variables together, where at most 4,095 processes
 /// are written in them, and where each nests at most 31 deep: no other test can refuse it.
 pub fn one_node_is_accepted()
@@ -60,4 +54,11 @@ pub fn one_node_is_accepted()
 /// It is refused for nothing else, but for want of memory: for its variables, for a process that nests too deep, or for its processes.
 pub fn only_sizes_refuse_it()
     ensures { OnlySizesRefuseIt }
+{}
+
+/// A PAR inside a PAR makes exactly what its parts make beside the others, and has ended where
+/// they have. So of two groupings of one list of processes each makes what the other makes.
+pub fn nesting_changes_nothing()
+    ensures nested { NestingChangesNothing }
+    ensures grouped { GroupingChangesNothing }
 {}

@@ -1,0 +1,54 @@
+-- Where a free placement of a program that never gets stuck is at rest, all its processes have ended: else they would be stuck.
+use Rattle.std.proofs.Common.{◌≡◌, ◌≢◌, ◌⊎◌, ℕ, ◌<◌, inl, inr, refl, sym, ap₂, subst, length, arith}
+use Rattle.vc_accepted.specs.Begin.{node_plan, begin_of}
+use Rattle.vc_accepted.specs.NetworkOf.{network_of}
+use Rattle.vc_accepted.specs.OneList.{by}
+use Rattle.vc_free.proofs.Quiet.{quiet_networks}
+use Rattle.vc_free.specs.NeverStuck.{NeverStuckAnywhere}
+use Rattle.vc_free.specs.Placements.{SameProgram}
+use Rattle.vc_free.specs.Rest.{NothingGoesOn}
+use Rattle.vc_network.specs.Views.{view}
+use Rattle.vc_occam.specs.Completeness.{Steps}
+use Rattle.vc_occam.specs.Opening.{opening}
+use Rattle.vc_occam.specs.Remains.{Rest, Done, Stopped, Fresh, Finishing, Getting, Then, Turns, Beside}
+use Rattle.vc_placement.specs.Linearization.{all_comms, completed}
+use Rattle.vc_plan.specs.Limits.{kinds_of}
+use Rattle.vc_plan.specs.declared.plan.Plan.{Plan}
+
+-- a process has ended or not
+is_done : (r : Rest) → (r ≡ Done) ⊎ (r ≢ Done)
+is_done Done = inl refl
+is_done (Stopped i) = inr (λ h. cc)
+is_done (Fresh p) = inr (λ h. cc)
+is_done (Finishing i c) = inr (λ h. cc)
+is_done (Getting i c v) = inr (λ h. cc)
+is_done (Then r ps) = inr (λ h. cc)
+is_done (Turns r v b n p) = inr (λ h. cc)
+is_done (Beside mine r q) = inr (λ h. cc)
+
+-- the processes of two plans of one program begin alike
+begins_alike : (p q : Plan) (n : ℕ) → SameProgram p q → n < length p.nodes → (begin_of p n).state ≡ (begin_of q n).state
+begins_alike p q n same less = ap₂ (λ k r. opening k r) (same.kinds n less) (same.process n less)
+
+pub never_stuck_anywhere : NeverStuckAnywhere
+never_stuck_anywhere p q waiting es s never same acc ranks happen rests n less =
+    let quiet = quiet_networks q waiting es s acc ranks happen rests in
+    let hs = quiet.0 in
+    let lin = quiet.1 in
+    let still = quiet.2 in
+    let there = still.begun n less in
+    let nodes = same.nodes in
+    let channels = same.channels in
+    elim (is_done (still.stands n).rest) [
+      | inl done ↦ (there.0, there.1, (still.ended n less there.0 there.1).0 done)
+      | inr goes_on ↦ absurd (never hs (record {
+        stands = still.stands;
+        shown = λ c. completed (view (network_of q) s c);
+        made = λ m l. subst (λ z. Steps z (by m (all_comms hs)) (still.stands m)) (sym (begins_alike p q m same.program l)) (still.made m (omega arith));
+        by_no_other = λ m past. lin.by_no_other m (omega arith);
+        faithful = lin.faithful;
+        on_channel = λ c l. lin.on_channel c (omega arith);
+        rest = subst (λ k. NothingGoesOn k still.stands (λ c. (view (network_of q) s c).stopped)) (sym nodes) still.rest;
+        waits = (n, omega arith, goes_on);
+      }))
+    ]

@@ -1,0 +1,46 @@
+-- A program that cannot get stuck, side by side on one transputer, gets stuck on no free placement.
+use Rattle.std.specs.Prelude.{◌≡◌, ◌≢◌, ℕ, ◌≤◌, ◌<◌, List, [], length}
+use Rattle.vc_accepted.specs.Begin.{begin_of}
+use Rattle.vc_accepted.specs.NetworkOf.{network_of}
+use Rattle.vc_accepted.specs.OneList.{by, on}
+use Rattle.vc_accepted.specs.Process.{Process, does}
+use Rattle.vc_free.specs.Placements.{IsOtherPlacement}
+use Rattle.vc_free.specs.Rest.{NothingGoesOn}
+use Rattle.vc_machine.specs.Rendezvous.{View, DoesAll, nothing_yet}
+use Rattle.vc_network.specs.Actors.{Network, ActBy}
+use Rattle.vc_network.specs.EnabledEvents.{IsEnabled}
+use Rattle.vc_network.specs.Network.{Act, Actor, begins, HappenAll}
+use Rattle.vc_occam.specs.Completeness.{Steps}
+use Rattle.vc_occam.specs.Remains.{Done}
+use Rattle.vc_occam.specs.States.{State}
+use Rattle.vc_placement.specs.Linearization.{Atomic, all_comms, AreFaithful}
+use Rattle.vc_placement.specs.OneNode.{HaveEnded}
+use Rattle.vc_plan.specs.Accepted.{IsAccepted}
+use Rattle.vc_plan.specs.Dependencies.{HasRanks}
+use Rattle.vc_plan.specs.declared.plan.Plan.{Plan}
+use Rattle.vc_switch.specs.Waiting.{Waiting}
+use Rattle.vc_tokens.specs.Tokens.{Token}
+
+-- The processes of the plan's nodes, side by side over channels that hold nothing, come to these states by these communications, each
+-- message at one moment. There nothing goes on, and some process has not ended.
+pub record GetsStuck (p : Plan) (hs : List Atomic) : Type 0 where
+  pub stands : ℕ → State
+  pub shown : ℕ → View
+  pub made : (n : ℕ) → n < length p.nodes → Steps (begin_of p n).state (by n (all_comms hs)) (stands n)
+  pub by_no_other : (n : ℕ) → length p.nodes ≤ n → by n (all_comms hs) ≡ []
+  pub faithful : AreFaithful hs
+  pub on_channel : (c : ℕ) → c < length p.channels → DoesAll nothing_yet (on c (all_comms hs)) (shown c)
+  pub rest : NothingGoesOn (length p.nodes) stands (λ c. (shown c).stopped)
+  pub waits : (n : ℕ) × (n < length p.nodes) × ((stands n).rest ≢ Done)
+
+-- whatever the processes communicate, they do not get stuck
+abbrev pub NeverStuck : Plan → Type 0
+NeverStuck p = (hs : List Atomic) → GetsStuck p hs → ⊥
+
+-- Where the program of a plan never gets stuck, and no event can happen any more on the network of an accepted placement of it whose ports
+-- have ranks, after any events and under either waiting rule, all its processes have ended.
+abbrev pub NeverStuckAnywhere : Type 0
+NeverStuckAnywhere =
+    (p q : Plan) (waiting : Waiting) (es : List (ActBy Act)) (s : Network (Actor Process) Token) → NeverStuck p → IsOtherPlacement p q → IsAccepted q → HasRanks q
+    → HappenAll (network_of q) waiting does (begins (network_of q) (begin_of q)) es s → ((e : ActBy Act) → IsEnabled (network_of q) waiting does s e → ⊥)
+    → HaveEnded q s
