@@ -13,10 +13,11 @@ use Rattle.vc_occam.specs.declared.blocked.Blocked.TheVariants as at
 use Rattle.vc_occam.specs.declared.moves.Move.{Move}
 use Rattle.vc_occam.specs.declared.moves.Move.TheVariants as move
 use Rattle.vc_process.proofs.Lists.{at_front, none, only}
-use Rattle.vc_process.specs.Syntax.{Proc, STOP, Output, Input, ALT, Test, Guards, no_guards, guard}
+use Rattle.vc_process.specs.Syntax.{Proc, SKIP, STOP, Assign, Output, Input, StopChan, SEQ, PAR, IF, WHILE, COUNT, ALT, no_parts, part, Test, Guards, no_guards, guard}
 use Rattle.vc_process.specs.Usage.{Set}
 use Rattle.vc_process.specs.Values.{Store, datum_of, holds}
-use Rattle.vc_waits.specs.Meaning.{HasStopped, IsSo, WordsAreSo}
+use Rattle.vc_accepted.specs.Alone.{GoesAlone}
+use Rattle.vc_waits.specs.Meaning.{HasNoParts, HasStopped, IsSo, WordsAreSo}
 
 -- beside another part
 so_left : (mine : Set) (r q : Rest) (e : Store) (b : Blocked) → IsSo r e b → IsSo (Beside mine r q) e b
@@ -149,5 +150,34 @@ stops (ALT i gs) e b h stop j d cs q f (does_choose decided g w x) = alt_stops i
 stops (ALT i gs) e b h stop j d cs q f (waits_choose decided g w) = alt_stops i gs e b (all_decided gs e) refl h stop decided g w
 stops p e b h stop j d cs q f st = none b h
 
+-- what has no line goes on by itself: an ALT always has one, and an output without one is of a fault, and stops by a step of its own
+some_closed : (i : ℕ) (bs : List Blocked) → or_closed i bs ≡ [] → ⊥
+some_closed i [] h = absurd (let z : at.Closed i ∷ [] ≡ [] = h in cc)
+some_closed i (b ∷ bs) h = absurd (let z : b ∷ bs ≡ [] = h in cc)
+
+output_goes : (i c : ℕ) (t : Bool) → (if t then (at.Output i c ∷ []) else []) ≡ [] → (m : Move) × GoesAlone m × Contains ((if t then move.Offer i c else move.Quiet i) ∷ []) m
+output_goes i c true h = absurd (let z : at.Output i c ∷ [] ≡ [] = h in cc)
+output_goes i c false h = (move.Quiet i, tt, at_front (move.Quiet i) [])
+
+alt_has_one : (i : ℕ) (gs : Guards) (e : Store) (t : Bool) → (if t then or_closed i (open_guards i gs e) else (at.Undecided i ∷ [])) ≡ [] → ⊥
+alt_has_one i gs e true h = some_closed i (open_guards i gs e) h
+alt_has_one i gs e false h = absurd (let z : at.Undecided i ∷ [] ≡ [] = h in cc)
+
+goes : (p : Proc) (e : Store) → blocked_fresh p e ≡ [] → HasNoParts p → (m : Move) × GoesAlone m × Contains (own (Fresh p) e) m
+goes (STOP i) e h n = absurd (let z : at.Stop i ∷ [] ≡ [] = h in cc)
+goes (Output i c a) e h n = output_goes i c (is_some (datum_of a e)) h
+goes (Input i c v) e h n = absurd (let z : at.Input i c ∷ [] ≡ [] = h in cc)
+goes (ALT i gs) e h n = absurd (alt_has_one i gs e (all_decided gs e) h)
+goes (StopChan i c) e h n = (move.Stopch i c, tt, at_front (move.Stopch i c) [])
+goes (SKIP i) e h n = (move.Quiet i, tt, at_front (move.Quiet i) [])
+goes (Assign i v a) e h n = (move.Quiet i, tt, at_front (move.Quiet i) [])
+goes (SEQ i no_parts) e h n = (move.Quiet i, tt, at_front (move.Quiet i) [])
+goes (SEQ i (part p ps)) e h n = absurd n
+goes (PAR i no_parts) e h n = (move.Quiet i, tt, at_front (move.Quiet i) [])
+goes (PAR i (part p ps)) e h n = absurd n
+goes (IF i bs) e h n = (move.Quiet i, tt, at_front (move.Quiet i) [])
+goes (WHILE i b p) e h n = (move.Quiet i, tt, at_front (move.Quiet i) [])
+goes (COUNT i v a n p) e h m = (move.Quiet i, tt, at_front (move.Quiet i) [])
+
 pub words_are_so : WordsAreSo
-words_are_so = record { waits = so; stopped = stops }
+words_are_so = record { waits = so; stopped = stops; others = goes }
