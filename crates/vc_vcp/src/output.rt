@@ -2,7 +2,7 @@
 //!
 //! A call queues and logs first and changes the half last, so that where it finds no memory the output and the queue are as
 //! they were.
-ghost use Rattle.std.specs.Prelude.{◌≡◌, ◌≢◌, ℕ, List, [], ◌∷◌, ◌++◌, IfOk, OnOk, OnErr};
+ghost use Rattle.std.specs.Prelude.{◌≡◌, ◌≢◌, ℕ, List, [], ◌∷◌, ◌++◌, IfOk, IfErr, OnOk, OnErr};
 ghost use Rattle.vc_blocks.specs.Acknowledges.{later_than, advanced};
 ghost use Rattle.vc_packets.specs.Pieces.{Pieces};
 ghost use Rattle.vc_packets.specs.Spellings.{piece_packet};
@@ -11,7 +11,7 @@ ghost use Rattle.vc_vcp.specs.VcpView.{finished_of};
 ghost use Rattle.vc_vcp.specs.State.{IsOutput};
 
 use crate::link_out::LinkOut;
-use std::alloc::Global;
+use std::alloc::{AllocFailed, Global};
 use vc_blocks::{Advance, MessageLog, OutHalf};
 use vc_packets::{Bytes, Memory, piece};
 
@@ -26,22 +26,25 @@ pub(crate) struct Output {
 }
 
 impl Output {
-    /// An output begins: the message is logged, and its first piece queued.
+    /// An output begins: the message is logged, and its first piece queued. Where there is no memory, the message comes back.
     pub(crate) fn offer(
         &mut self,
         queue: &mut LinkOut,
         alloc: Global,
         message: Bytes,
-    ) -> Result<(), Memory>
+    ) -> Result<(), AllocFailed<Bytes>>
         requires { self.old.half.unacked ≡ [] }
         ensures sender { queue.new.sender ≡ queue.old.sender }
         ensures stays { StaysOutput self.old self.new }
         ensures is { IsOutput self.old → IsOutput self.new }
         ensures ok { OnOk result (Begins self.old queue.old message self.new queue.new) }
+        ensures back { IfErr result (λ failed. failed.value ≡ message) }
         ensures err { OnErr result (self.new ≡ self.old) }
         ensures err_queue { OnErr result (queue.new ≡ queue.old) }
     {
-        self.prepare(queue, alloc, message.as_slice())?;
+        if self.prepare(queue, alloc, message.as_slice()).is_err() {
+            return Err(AllocFailed { value: message });
+        }
         self.half.offer(message);
         Ok(())
     }

@@ -1,8 +1,9 @@
 //! The virtual channel processor of a node: the calls by which it is run, each a step of the node.
 //!
 //! A channel is named by its number in the network, a link by its number at the node, 0 to 3. A question about another link is
-//! answered false, or with nothing. A call that finds no memory answers `Memory`, and has changed nothing.
-ghost use Rattle.std.specs.Prelude.{◌≡◌, ◌≢◌, ◌<◌, ◌≤◌, None, Ok, ℕ, List, length, slice_get, ◌↔◌, [], false, Some, IsTrue, IsOk, IsSome, IfOk, IfSome, OnOk, OnErr};
+//! answered false, or with nothing. A call that finds no memory answers `Memory`, or with the message that it was given, and has
+//! changed nothing.
+ghost use Rattle.std.specs.Prelude.{◌≡◌, ◌≢◌, ◌<◌, ◌≤◌, None, Ok, ℕ, List, length, slice_get, ◌↔◌, [], false, Some, IsTrue, IsOk, IsSome, IfOk, IfErr, IfSome, OnOk, OnErr};
 ghost use Rattle.vc_vcp.specs.Names.{named};
 ghost use Rattle.std.specs.List.{AllByRecursion};
 ghost use Rattle.vc_blocks.specs.Messages.{listed};
@@ -31,7 +32,7 @@ use crate::opening::{self, LINKS};
 use crate::output::Output;
 use crate::places::{input_of, input_on, output_of, output_on};
 use crate::taken::{self, Taken};
-use std::alloc::Global;
+use std::alloc::{AllocFailed, Global};
 use std::marker::Model;
 use vc_blocks::{Messages, Want};
 use vc_packets::{Bytes, Kind, Mark, Memory, Packet, kind_of};
@@ -113,14 +114,16 @@ impl Vcp {
         })
     }
 
-    /// A message is offered on a channel that the node outputs on and on which nothing is under way: its first piece is queued.
-    pub fn offer(&mut self, chan: u16, message: Bytes) -> Result<(), Memory>
+    /// A message is offered on a channel that the node outputs on and on which nothing is under way: its first piece is queued. If there is
+    /// no memory, the error has the message, and nothing has changed.
+    pub fn offer(&mut self, chan: u16, message: Bytes) -> Result<(), AllocFailed<Bytes>>
         requires { IsIdle self.old chan }
         ensures offers { OnOk result
             (Offers (ends_of self.old) (seen self.old).carrier chan message
             (seen self.new).carrier) }
         ensures links { (seen self.new).link ≡ (seen self.old).link }
         ensures kept { IsKept self.old self.new }
+        ensures back { IfErr result (λ failed. failed.value ≡ message) }
         ensures err { OnErr result (self.new ≡ self.old) }
     {
         match output_on(&self.outputs, self.output_hints.on_chan(chan), chan) {
