@@ -11,7 +11,7 @@ use vc_core::{Act, Actor, actors};
 use vc_plan::check;
 use vc_reader::read_network;
 use vc_threads::{
-    ActorRun, EndGate, Ends, Gate, LinkRule, Stamped, Stop, merge, next_stamp, worker,
+    ActorRun, EndGate, Ends, Gate, In, LinkRule, Stamped, Stop, merge, next_stamp, worker,
 };
 use vc_tokens::Token;
 
@@ -121,6 +121,31 @@ fn a_worker_takes_and_then_ends(rt: HostRuntime) -> Result<(), Fail> {
     assert_eq!(rt; made.acts[0].0, 8);
     assert!(rt; matches!(made.acts[0].1, Act::Take { link: 2, .. }));
     assert_eq!(rt; made.acts[1].0, 9);
+    Ok(())
+}
+
+/// An end that comes in by a link, with a token that waits in its ring.
+fn end_with_token(rt: &impl Abort, alloc: Global, link: u8) -> Result<(u8, In), Fail>
+    ensures { IfOk result (λ end. end.0 ≡ link) }
+{
+    let (mut producer, consumer) = RingBuffer::with_protocol::<Global, LinkRule>(alloc, 32)?;
+    let item = Token::Fct;
+    assert!(rt; producer.push(Stamped { at: 7, item }).is_ok());
+    Ok((link, consumer))
+}
+
+#[test]
+fn a_worker_takes_from_the_least_link_first(rt: HostRuntime) -> Result<(), Fail> {
+    let mut ins = Vec::new(rt.alloc());
+    ins.push(end_with_token(&rt, rt.alloc(), 2)?)?;
+    ins.push(end_with_token(&rt, rt.alloc(), 1)?)?;
+    let outs = Vec::new(rt.alloc());
+    let ends = Ends { outs, ins };
+    let node = actor(&rt, rt.alloc(), SKIPS)?;
+    let made = worker(rt.alloc(), 0, node, ends, &EndGate::new(1), 100, 7);
+    assert_eq!(rt; made.acts.len(), 3);
+    assert!(rt; matches!(made.acts[0].1, Act::Take { link: 1, .. }));
+    assert!(rt; matches!(made.acts[1].1, Act::Take { link: 2, .. }));
     Ok(())
 }
 

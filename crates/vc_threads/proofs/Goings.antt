@@ -25,11 +25,12 @@ use Rattle.vc_threads.specs.declared.run.Stop.TheVariants.{Turns, Gate, Clock}
 use Rattle.vc_threads.specs.Stamps.{stamped, all_stamped}
 use Rattle.vc_threads.specs.Wires.{OutLooked, InLooked, Distinct, IsAmong, Sends, Receives, out_links, in_links}
 use Rattle.vc_threads.specs.Runs.{StepsByLink, HasNoStep, Used, Draws, words_of}
-use Rattle.vc_threads.specs.Works.{Out, In, kept, logged, GoesOver, GoOver, IsFull, HasRun}
+use Rattle.vc_threads.specs.Works.{Out, In, kept, logged, GoesOver, GoOver, TakeFromLeast, IsFull, HasRun}
 use Rattle.vc_threads.specs.Private.Rooms.{HasPut}
 use Rattle.vc_threads.specs.Private.Works.{Seen, worker_state, Uses, Stays, TakesTurn, StopsFor}
 use Rattle.vc_threads.proofs.Zips.{zip_weaker, zip_then, zip_one, zip_map, zip_same}
 use Rattle.vc_threads.proofs.Looks.{producer_then, consumer_then, looked_same, in_looked_same, in_looked_then}
+use Rattle.vc_threads.proofs.LeastTakes.{least_looked, least_then, least_end, least_of, same_actor_links}
 use Rattle.vc_threads.proofs.Steps.{clock_then, run_then, put_then, taken_then, words_then, draws_then, used_then, run_kept}
 use Rattle.vc_machine.proofs.Ownership.{all_both}
 
@@ -172,6 +173,7 @@ module _ (plan : Plan) (k : ℕ) where
       outs = sends_quiet [] (λ l. refl) a.outs b.outs outs;
       ins = receives_quiet [] (λ l. refl) a.ins b.ins ins;
       links = tt;
+      least = ins;
       words = words;
     };
     used = (quiet, node);
@@ -179,9 +181,9 @@ module _ (plan : Plan) (k : ℕ) where
 
   -- one step was made
   pub uses_one : (a b : Seen) (t : Turn Act Token) → StepsByLink plan k a.actor (plain t.it) b.actor → t.at ≡ next_stamp a.clock t.it → CarriesStamp t.at t.it
-      → GoesOver (out_links a.outs) (in_links a.ins) t.it → b.clock ≡ t.at → b.keeps ≡ a.keeps → b.log ≡ a.log ++ kept a.keeps (logged t ∷ []) → Draws a.words (words_of (t ∷ [])) b.words
+      → TakeFromLeast a.actor a.ins (t ∷ []) b.ins → GoesOver (out_links a.outs) (in_links a.ins) t.it → b.clock ≡ t.at → b.keeps ≡ a.keeps → b.log ≡ a.log ++ kept a.keeps (logged t ∷ []) → Draws a.words (words_of (t ∷ [])) b.words
       → AllZip (Sends (t ∷ [])) a.outs b.outs → AllZip (Receives (t ∷ [])) a.ins b.ins → Uses plan k 1 a b
-  uses_one a b t step stamp carries over clock keeps log words outs ins = record {
+  uses_one a b t step stamp carries least over clock keeps log words outs ins = record {
     steps = t ∷ [];
     few = omega arith;
     goes = record {
@@ -192,6 +194,7 @@ module _ (plan : Plan) (k : ℕ) where
       outs = outs;
       ins = ins;
       links = (over, tt);
+      least = least;
       words = words;
     };
     used = inr (b.actor, (b.actor, step, stamp, carries, refl), refl);
@@ -210,6 +213,7 @@ module _ (plan : Plan) (k : ℕ) where
       outs = p.goes.outs;
       ins = looked_receives p.steps ins a.ins b.ins looked p.goes.ins;
       links = subst (λ ls. AllByRecursion (λ t. GoesOver (out_links a.outs) ls t.it) p.steps) (looked_in_links ins a.ins looked) p.goes.links;
+      least = least_looked a.actor ins a.ins p.steps b.ins looked p.goes.least;
       words = p.goes.words;
     };
     used = p.used;
@@ -228,6 +232,7 @@ module _ (plan : Plan) (k : ℕ) where
       outs = sends_quiet [] (λ l. refl) a.outs a.outs (zip_same OutLooked looked_same a.outs);
       ins = receives_quiet [] (λ l. refl) a.ins a.ins (zip_same InLooked in_looked_same a.ins);
       links = tt;
+      least = zip_same InLooked in_looked_same a.ins;
       words = refl;
     };
     used = refl;
@@ -241,8 +246,8 @@ module _ (plan : Plan) (k : ℕ) where
   ins_same n a b p = zip_map (λ o. o.0) (λ o. o.0) (Receives p.steps) (λ x y l. l.0) a.ins b.ins p.goes.ins
 
   -- one turn after another
-  pub uses_then : (n m : ℕ) (a b c : Seen) → Uses plan k n a b → Uses plan k m b c → Uses plan k (n + m) a c
-  uses_then n m a b c p q =
+  pub uses_then : (n m : ℕ) (a b c : Seen) → IsActorOf plan k a.actor → Uses plan k n a b → Uses plan k m b c → Uses plan k (n + m) a c
+  uses_then n m a b c of p q =
       let few = p.few in
       let more = q.few in
       let run = subst (λ w. LocalRun (StepsByLink plan) k w b.actor q.steps c.actor) p.goes.clock q.goes.run in
@@ -260,6 +265,8 @@ module _ (plan : Plan) (k : ℕ) where
           links = all_both (λ t. GoesOver (out_links a.outs) (in_links a.ins) t.it) p.steps q.steps p.goes.links
               (subst (λ ls. AllByRecursion (λ t. GoesOver ls (in_links a.ins) t.it) q.steps) (outs_same n a b p)
               (subst (λ ls. AllByRecursion (λ t. GoesOver (out_links b.outs) ls t.it) q.steps) (ins_same n a b p) q.goes.links));
+          least = least_then a.actor a.ins p.steps q.steps b.ins c.ins p.goes.least
+              (least_of b.actor a.actor (same_actor_links plan k b.actor a.actor (run_kept plan k a.clock a.actor p.steps b.actor p.goes.run of) of) b.ins q.steps c.ins q.goes.least);
           words = subst (λ w. Draws a.words w c.words) (sym (words_then p.steps q.steps)) (draws_then a.words b.words c.words (words_of p.steps) (words_of q.steps) p.goes.words q.goes.words);
         };
         used = used_then plan k n m a.clock a.actor b.actor c.actor p.steps q.steps p.used (subst (λ w. Used plan k m w b.actor q.steps c.actor) p.goes.clock q.used);
@@ -315,6 +322,9 @@ has_run refuses plan k n m id seed a b c actor ends keeps r p s le actor_is cloc
       outs = subst (λ (v : Vec Out). AllZip (Sends p.steps) v.items r.ends.outs.items) outs_is (subst (λ (v : Vec Out). AllZip (Sends p.steps) a.outs.ends.items v.items) (sym outs') outs);
       ins = subst (λ (v : Vec In). AllZip (Receives p.steps) v.items r.ends.ins.items) ins_is (subst (λ (v : Vec In). AllZip (Receives p.steps) a.ins.items v.items) (sym ins') ins);
       links = subst (λ (v : Vec Out). GoOver v.items ends.ins.items p.steps) outs_is (subst (λ (v : Vec In). GoOver a.outs.ends.items v.items p.steps) ins_is p.goes.links);
+      least = subst (λ v. TakeFromLeast v ends.ins.items p.steps r.ends.ins.items) actor_is
+          (subst (λ (v : Vec In). TakeFromLeast a.actor v.items p.steps r.ends.ins.items) ins_is
+          (subst (λ (v : Vec In). TakeFromLeast a.actor a.ins.items p.steps v.items) (sym ins') (least_end a.actor a.ins.items p.steps b.ins c.ins.items p.goes.least s.ins)));
       rest = b.words;
       words = subst (λ g. Draws g (words_of p.steps) b.words) words_is p.goes.words;
       used = subst (λ v. Used plan k n 0 v p.steps r.actor) actor_is

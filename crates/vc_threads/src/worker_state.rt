@@ -4,8 +4,8 @@ ghost use Rattle.std.specs.List.{All, AllZip, HoldsAt};
 ghost use Rattle.vc_actor.specs.OfPlan.{IsActorOf};
 ghost use Rattle.vc_network.specs.Plan.{Plan};
 ghost use Rattle.vc_threads.specs.Wires.{InLooked, IsReady};
-ghost use Rattle.vc_threads.specs.Private.Works.{CanTake, TakesFront};
-ghost use Rattle.vc_threads.specs.Works.{IsGreatest, IsLate};
+ghost use Rattle.vc_threads.specs.Private.Works.{TakesFront};
+ghost use Rattle.vc_threads.specs.Works.{CanTake, IsGreatest, IsLate};
 ghost use Rattle.vc_threads.specs.Private.Least.{TakesLeast};
 
 use crate::link::{Ends, In, Stamped};
@@ -119,13 +119,14 @@ fn take_front(
 }
 
 impl WorkerState {
-    ghost use Rattle.std.specs.Prelude.{◌≡◌, ◌<◌, ◌++◌, [], ◌∷◌, length, IfOk, IfErr};
+    ghost use Rattle.std.specs.Prelude.{◌≡◌, ◌<◌, ◌++◌, [], ◌∷◌, length, Some, IfOk, IfErr};
     ghost use Rattle.std.specs.List.{All, HoldsAt};
     ghost use Rattle.std.specs.Vec.{vec_len, vec_capacity};
     ghost use Rattle.vc_threads.specs.Runs.{generator};
     ghost use Rattle.vc_threads.specs.Wires.{Distinct, in_links, out_links};
-    ghost use Rattle.vc_threads.specs.Private.Works.{CanTake, IsRested, SameLinks, StopsFor, TakesTurn, worker_state};
-    ghost use Rattle.vc_threads.specs.Works.{kept};
+    ghost use Rattle.vc_threads.specs.Private.Least.{TakesLeast};
+    ghost use Rattle.vc_threads.specs.Private.Works.{IsRested, SameLinks, StopsFor, TakesTurn, worker_state};
+    ghost use Rattle.vc_threads.specs.Works.{CanTake, kept};
 
     /// An actor that did nothing yet. Its words are those of the generator of this seed and number.
     pub(crate) fn new(
@@ -221,6 +222,7 @@ impl WorkerState {
         requires links { Distinct (in_links self.old.ins.items) }
         requires within { k < length self.old.ins.items }
         requires can { HoldsAt (CanTake self.old.actor) self.old.ins.items k }
+        requires least { TakesLeast self.old.actor self.old.ins.items (Some k) }
         requires room { vec_len self.old.acts < vec_capacity self.old.acts }
         ensures turn { IfOk result (TakesTurn (worker_state self.old) (worker_state self.new)) }
         ensures stop { IfErr result (StopsFor (worker_state self.old) (worker_state self.new)) }

@@ -1,8 +1,7 @@
 -- The end from which a worker takes: of those from which its actor can take, the one of the least link.
 use Rattle.std.specs.Prelude.{◌≡◌, ℕ, ◌≤◌, ◌<◌, List, length, Option, Some, slice_index_or}
 use Rattle.vc_actor.specs.ActorView.{Acting}
-use Rattle.vc_threads.specs.Works.{In}
-use Rattle.vc_threads.specs.Private.Works.{CanTake}
+use Rattle.vc_threads.specs.Works.{In, CanTake}
 
 -- a link below 32 is that of the end at this place, which is one of the first n, and the actor can take from it; 32 says that none was found
 abbrev pub IsFound : Acting → List In → ℕ → ℕ → ℕ → Type 0

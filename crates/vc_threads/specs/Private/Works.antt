@@ -2,13 +2,12 @@
 use Rattle.std.specs.Prelude.{◌≡◌, ◌≢◌, ℕ, ◌<◌, ◌≤◌, ◌++◌, Bool, List, [], ◌∷◌, length, map, Option, IfSome}
 use Rattle.std.specs.List.{AllZip}
 use Rattle.rand_pcg.specs.Lcg.{Lcg}
-use Rattle.rtrb.specs.Ring.{received, SameConsumer}
+use Rattle.rtrb.specs.Ring.{received, known_items, SameConsumer}
 use Rattle.vc_network.specs.Actors.Label.{Takes}
 use Rattle.vc_network.specs.LocalRun as local
 use Rattle.vc_network.specs.LocalRun.{Turn, LocalRun, clock_after}
 use Rattle.vc_network.specs.Plan.{Plan}
 use Rattle.vc_tokens.specs.declared.token.Token.{Token}
-use Rattle.vc_actor.specs.Acts.{HasLink}
 use Rattle.vc_actor.specs.OfPlan.{IsActorOf}
 use Rattle.vc_actor.specs.declared.act.Act.{Act}
 use Rattle.vc_actor.specs.declared.act.Act.TheVariants.{Take}
@@ -19,16 +18,12 @@ use Rattle.vc_threads.specs.declared.run.Stop.{Stop}
 use Rattle.vc_threads.specs.declared.run.Stop.TheVariants.{Turns, Gate, Clock}
 use Rattle.vc_threads.specs.Runs.{StepsByLink, HasNoStep, Used, Draws, words_of}
 use Rattle.vc_threads.specs.Stamps.{stamped}
-use Rattle.vc_threads.specs.Wires.{Sends, Receives, OutLooked, InLooked, IsReady, out_links, in_links}
-use Rattle.vc_threads.specs.Works.{Out, In, IsFull, logged, kept, GoOver}
+use Rattle.vc_threads.specs.Wires.{Sends, Receives, OutLooked, InLooked, out_links, in_links}
+use Rattle.vc_threads.specs.Works.{Out, In, IsFull, logged, kept, GoOver, TakeFromLeast}
 
 -- the actor is one of some plan
 abbrev pub IsOfSomePlan : Acting → Type 0
 IsOfSomePlan n = (plan : Plan) × (k : ℕ) × IsActorOf plan k n
-
--- the actor has the link, and an item is known in its ring
-abbrev pub CanTake : Acting → In → Type 0
-CanTake x i = HasLink x i.0 × IsReady i
 
 -- what is seen of a worker's state: also whether its acts are kept in the log
 pub record Seen : Type 0 where
@@ -57,6 +52,7 @@ pub record Goes (plan : Plan) (k : ℕ) (a : Seen) (ts : List (Turn Act Token)) 
   pub outs : AllZip (Sends ts) a.outs b.outs
   pub ins : AllZip (Receives ts) a.ins b.ins
   pub links : GoOver a.outs a.ins ts
+  pub least : TakeFromLeast a.actor a.ins ts b.ins
   pub words : Draws a.words (words_of ts) b.words
 
 -- at most n steps lead from one state of a worker to the other, which use n turns
@@ -116,3 +112,4 @@ pub record TakesFront (plan : Plan) (k : ℕ) (old : Acting) (clock word : ℕ) 
   pub link : end'.0 ≡ end.0
   pub ring : SameConsumer end.1 end'.1
   pub got : received end'.1 ≡ received end.1 ++ item ∷ []
+  pub known : known_items end.1 ≡ item ∷ known_items end'.1

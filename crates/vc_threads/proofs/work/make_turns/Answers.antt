@@ -52,7 +52,7 @@ pub loop-turn-preserved : goal.loop-turn-preserved
 loop-turn-preserved g c = record {
   run = λ plan n of.
       let p = c.loop-turn.invariant.run plan n of in
-      uses_then plan n c.loop-turn.turn 1 (worker_state c.args.worker.now) (worker_state c.loop-turn.worker) (worker_state c.turn.new.self) p
+      uses_then plan n c.loop-turn.turn 1 (worker_state c.args.worker.now) (worker_state c.loop-turn.worker) (worker_state c.turn.new.self) of p
       (c.in-Ok.ensures.turn.uses plan n (actor_kept plan n c.loop-turn.turn (worker_state c.args.worker.now) (worker_state c.loop-turn.worker) p of));
   ends = (c.in-Ok.ensures.ends.0 ∙ c.loop-turn.invariant.ends.0, c.in-Ok.ensures.ends.1 ∙ c.loop-turn.invariant.ends.1);
   rests = c.in-Ok.ensures.turn.rests;

@@ -4,8 +4,7 @@ use Rattle.std.proofs.lemmas.List.{get_or-set_same, get_or-set_other}
 use Rattle.std.proofs.lemmas.Bool.Decides.{eqb_tells}
 use Rattle.vc_actor.specs.ActorView.{Acting}
 use Rattle.vc_threads.specs.Wires.{InLooked}
-use Rattle.vc_threads.specs.Works.{In}
-use Rattle.vc_threads.specs.Private.Works.{CanTake}
+use Rattle.vc_threads.specs.Works.{In, CanTake}
 use Rattle.vc_threads.specs.Private.Least.{IsFound, IsLeast}
 use Rattle.vc_threads.proofs.Zips.{zip_same, zip_step}
 use Rattle.vc_threads.proofs.Looks.{in_looked_same, in_looked_then}

@@ -31,6 +31,7 @@ returns-clause-ok c = λ plan k of.
       link = refl;
       ring = c.pop_known.ensures.ring;
       got = r.0;
+      known = r.1;
     }
 
 pub returns-in_default-clause-full : goal.returns-in_default-clause-full

@@ -13,6 +13,7 @@ use Rattle.vc_threads.specs.Private.Works.{SameLinks, Uses, worker_state}
 use Rattle.vc_threads.proofs.Zips.{zip_same}
 use Rattle.vc_threads.proofs.Looks.{in_looked_same, low_kept}
 use Rattle.vc_threads.proofs.Steps.{finds_quiet}
+use Rattle.vc_threads.proofs.LeastTakes.{least_quiet}
 use Rattle.vc_threads.proofs.Goings.{uses_idle, uses_one, stays_same, put_links, sends_quiet, receives_quiet, looked_sends, looked_out_links}
 use Rattle.vc_threads.proofs.Outcomes.{of_some}
 use Rattle.vc_actor.specs.OfPlan.{IsActorOf}
@@ -92,7 +93,7 @@ returns-in-Ok-Local-clause-turn c = record {
       let t : Turn Act Token = record { at = c.in-Some.stamp; it = Own c.in-Ok-Local.act } in
       subst (λ b. Uses plan n 1 (worker_state a) b) (sym c.log.ensures) (uses_one plan n (worker_state a)
       (record { actor = c.turn.new.self; clock = c.in-Some.stamp; keeps = a.keeps; log = a.acts.items ++ kept a.keeps (made ∷ []); outs = mid; ins = a.ins.items; words = a.words })
-      t did.1 c.in-Some.ensures tt tt refl refl refl refl
+      t did.1 c.in-Some.ensures tt (least_quiet a.actor a.ins.items t (λ l. refl) tt) tt refl refl refl refl
       (sends_quiet (t ∷ []) (λ l. refl) a.outs.ends.items mid outs')
       (receives_quiet (t ∷ []) (λ l. refl) a.ins.items a.ins.items (zip_same InLooked in_looked_same a.ins.items)));
   rests = λ plan n of. tt;
@@ -113,7 +114,7 @@ returns-in-Ok-Put-clause-turn c = record {
       let t : Turn Act Token = record { at = c.in-Some.stamp; it = Puts act link (stamped x) } in
       subst (λ b. Uses plan n 1 (worker_state a) b) (sym c.log-in-Ok-Put.ensures) (uses_one plan n (worker_state a)
       (record { actor = c.turn.new.self; clock = c.in-Some.stamp; keeps = a.keeps; log = a.acts.items ++ kept a.keeps (made ∷ []); outs = new; ins = a.ins.items; words = a.words })
-      t did.1 c.in-Some.ensures refl (subst (λ ls. IsAmong ls link) (looked_out_links a.outs.ends.items mid outs') c.put.ensures.among) refl refl refl refl
+      t did.1 c.in-Some.ensures refl (least_quiet a.actor a.ins.items t (λ l. refl) tt) (subst (λ ls. IsAmong ls link) (looked_out_links a.outs.ends.items mid outs') c.put.ensures.among) refl refl refl refl
       (looked_sends (t ∷ []) a.outs.ends.items mid new outs' (c.put.ensures.put act))
       (receives_quiet (t ∷ []) (λ l. refl) a.ins.items a.ins.items (zip_same InLooked in_looked_same a.ins.items)));
   rests = λ plan n of. tt;

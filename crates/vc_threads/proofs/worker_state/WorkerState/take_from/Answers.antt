@@ -12,6 +12,8 @@ use Rattle.vc_threads.specs.Private.Works.{SameLinks, Uses, take_of, worker_stat
 use Rattle.vc_threads.proofs.Zips.{zip_same, zip_step}
 use Rattle.vc_threads.proofs.Looks.{looked_same, in_looked_same, in_looked_then}
 use Rattle.vc_threads.proofs.Late.{passed, written_in}
+use Rattle.vc_threads.proofs.LeastTakes.{least_one}
+use Rattle.vc_threads.proofs.LeastEnds.{from_least, passed_one}
 use Rattle.vc_threads.proofs.Goings.{among, uses_one, receives_one, sends_quiet}
 use Rattle.vc_threads.proofs.worker_state.WorkerState.take_from.Goals as goal
 
@@ -47,7 +49,9 @@ returns-clause-turn c = record {
       let t = take_of made c.index_mut.result.now.0 h.item in
       subst (λ b. Uses plan n 1 (worker_state a) b) (sym c.log.ensures) (uses_one plan n (worker_state a)
       (record { actor = c.take_front.new.actor; clock = c.in_ok-stamp.stamp; keeps = a.keeps; log = a.acts.items ++ kept a.keeps (made ∷ []); outs = a.outs.ends.items; ins = set a.ins.items c.args.k c.take_front.new.end; words = c.next_word-word.new.self })
-      t h.step h.stamp tt (among a.ins.items c.args.k c.index_mut.result.now c.requires.within c.index_mut.ensures.value) refl
+      t h.step h.stamp tt (least_one a.actor a.ins.items t (set a.ins.items c.args.k c.take_front.new.end)
+      (from_least a.actor a.ins.items c.args.k c.index_mut.result.now c.requires.within c.index_mut.ensures.value c.requires.least)
+      (passed_one a.ins.items c.args.k c.index_mut.result.now c.take_front.new.end c.in_ok-stamp.stamp c.in_ok-stamp.act h.item c.requires.links c.requires.within c.index_mut.ensures.value h.link h.ring h.got h.known)) (among a.ins.items c.args.k c.index_mut.result.now c.requires.within c.index_mut.ensures.value) refl
       refl refl
       (subst (λ x. Draws a.words (word_of (Takes x c.index_mut.result.now.0 (stamped h.item)) ++ []) c.next_word-word.new.self) (sym h.act)
       (ap (λ (p : ℕ × Lcg). p.0) c.next_word-word.ensures, ap (λ (p : ℕ × Lcg). p.1) c.next_word-word.ensures))

@@ -1,8 +1,10 @@
-use Rattle.std.proofs.Common.{◌≡◌, refl, sym, ◌∙◌, subst, ◌++◌, take, drop, length}
+use Rattle.std.proofs.Common.{◌≡◌, Some, refl, sym, ◌∙◌, subst, ◌++◌, take, drop, length}
 use Rattle.std.specs.List.{HoldsAt}
 use Rattle.vc_threads.specs.Wires.{InLooked, Distinct}
 use Rattle.vc_threads.specs.declared.run.Stop.TheVariants.{Turns, Gate, Clock, Memory}
-use Rattle.vc_threads.specs.Private.Works.{Seen, CanTake, worker_state}
+use Rattle.vc_threads.specs.Private.Least.{TakesLeast}
+use Rattle.vc_threads.specs.Private.Works.{Seen, worker_state}
+use Rattle.vc_threads.specs.Works.{CanTake}
 use Rattle.vc_threads.proofs.Goings.{stays_same, turn_looked, stop_looked, looked_in_links}
 use Rattle.vc_threads.proofs.Outcomes.{if_err_map}
 use Rattle.vc_threads.proofs.Backs.{same_back, zip_back}
@@ -61,6 +63,13 @@ take_from-requires-clause-can c =
     let ins = a.ins in
     let same = same_back InLooked ins.len ins.items c.as_mut_slice.result.now c.find_in.new.ins ins.ok.0 c.as_mut_slice.ensures.value c.find_in.ensures.looked in
     subst (λ w. HoldsAt (CanTake a.actor) w c.in-Some.k) (sym same) c.in-Some.ensures.can.1
+
+pub take_from-requires-clause-least : goal.take_from-requires-clause-least
+take_from-requires-clause-least c =
+    let a = c.args.self.now in
+    let ins = a.ins in
+    let same = same_back InLooked ins.len ins.items c.as_mut_slice.result.now c.find_in.new.ins ins.ok.0 c.as_mut_slice.ensures.value c.find_in.ensures.looked in
+    subst (λ w. TakesLeast a.actor w (Some c.in-Some.k)) (sym same) c.in-Some.ensures.least
 
 pub returns-then-capacity-len-clause-ends : goal.returns-then-capacity-len-clause-ends
 returns-then-capacity-len-clause-ends c = (refl, refl)
