@@ -1,4 +1,4 @@
-//! Whether packets of an accepted plan can come to wait for one another in a circle.
+//! The search for a cycle of dependencies, along which packets of an accepted plan might come to wait for one another.
 //!
 //! The ports of switches, each the beginning of a way, are the vertices of the channel dependency graph (Dally and Seitz, 1987). The
 //! layer above knows of [`find_cycle`] that it answers none exactly where the ports have ranks that rise along each dependency, and
