@@ -69,7 +69,7 @@ def outcome(words, network, env):
 
 def sweep(words, network, shim, folder):
     """Fails each allocation in turn, and says how the runs ended."""
-    count_to = folder / "count"
+    count_to = folder / f"count-{os.getpid()}"
     right = outcome(words, network, {"LD_PRELOAD": str(shim), "COUNT_TO": str(count_to)})
     count = int(count_to.read_text())
     # Where the line of a refusal finds no memory, nothing is printed.
@@ -99,7 +99,7 @@ def ending(got):
 
 def sweep_threads(words, network, shim, folder):
     """Fails each allocation of a run in threads in turn, and says how the runs ended."""
-    count_to = folder / "count"
+    count_to = folder / f"count-{os.getpid()}"
     outcome(words, network, {"LD_PRELOAD": str(shim), "COUNT_TO": str(count_to)})
     count = int(count_to.read_text()) + MORE
     ended = {}
@@ -113,6 +113,16 @@ def sweep_threads(words, network, shim, folder):
     print(f"{network.name} {' '.join(words[1:])}: {count} allocations: {told}", flush=True)
 
 
+def jobs(vcnet, network, shim, folder):
+    """The sweeps of a network: each a function, with what it is given."""
+    events = folder / f"{network.stem}.events"
+    events.write_bytes(outcome([vcnet, "step", "--trace", "--limit", "1000"], network, {})[0])
+    words = [it.split() for it in WORDS] + [[*it.split(), "--events", str(events)] for it in ("replay", "replay --why")]
+    is_refused = outcome([vcnet, "check"], network, {})[0].startswith(b"refused ")
+    made = [(sweep, [vcnet, *it], network, shim, folder) for it in words]
+    return [*made, (sweep if is_refused else sweep_threads, [vcnet, "run", *TURNS], network, shim, folder)]
+
+
 def main():
     if len(sys.argv) < 2:
         sys.exit(__doc__)
@@ -122,14 +132,8 @@ def main():
         folder = pathlib.Path(name)
         shim = peak.compiled(SHIM, "shim.so", "-shared", "-fPIC")
         for network in networks:
-            for words in WORDS:
-                sweep([vcnet, *words.split()], network, shim, folder)
-            events = folder / "events"
-            events.write_bytes(outcome([vcnet, "step", "--trace", "--limit", "1000"], network, {})[0])
-            for words in ("replay", "replay --why"):
-                sweep([vcnet, *words.split(), "--events", str(events)], network, shim, folder)
-            is_refused = outcome([vcnet, "check"], network, {})[0].startswith(b"refused ")
-            (sweep if is_refused else sweep_threads)([vcnet, "run", *TURNS], network, shim, folder)
+            for do, *given in jobs(vcnet, network, shim, folder):
+                do(*given)
 
 
 if __name__ == "__main__":

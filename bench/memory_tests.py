@@ -27,7 +27,7 @@ def run(program, test, shim, env):
 
 def sweep(program, test, shim, folder):
     """Fails each allocation of a test in turn. Some more numbers are tried, since threads make their allocations in no one order."""
-    count_to = folder / "count"
+    count_to = folder / f"count-{os.getpid()}"
     ample = run(program, test, shim, {"COUNT_TO": str(count_to)})
     if ample.returncode or not count_to.exists():
         sys.exit(f"{test}: fails with ample memory: {ample.stdout[-300:]!r} {ample.stderr[-300:]!r}")
@@ -41,6 +41,12 @@ def sweep(program, test, shim, folder):
     print(f"{test}: holds with each of its {count} allocations refused, and with ample memory", flush=True)
 
 
+def names(program):
+    """The names of the tests of memory that a built program of tests has."""
+    listed = subprocess.run([program, "--list"], capture_output=True, check=True, text=True).stdout
+    return [line.removesuffix(": test") for line in listed.splitlines() if "memory" in line]
+
+
 def main():
     if len(sys.argv) > 1:
         sys.exit(__doc__)
@@ -52,10 +58,8 @@ def main():
         for crate in CRATES:
             program = folder / crate
             build(str(program), crate, tests=True)
-            listed = subprocess.run([program, "--list"], capture_output=True, check=True, text=True).stdout
-            for line in listed.splitlines():
-                if "memory" in line:
-                    sweep(program, line.removesuffix(": test"), shim, folder)
+            for test in names(program):
+                sweep(program, test, shim, folder)
 
 
 if __name__ == "__main__":
