@@ -1,23 +1,19 @@
 -- A process runs as if each output began where it is taken, and each input where it has its message: what began before is put off.
-use Rattle.std.proofs.Common.{◌≡◌, ℕ, Bool, true, false, zero, suc, ◌+◌, ◌==◌, refl, sym, ap, subst, ◌∙◌, List, [], ◌∷◌, ◌++◌, Option, Some, None, ◌⊎◌, inl, inr, arith, eq-eqb, append_assoc, append-nil, if◌then◌else◌}
-use Rattle.std.specs.List.{Contains}
+use Rattle.std.proofs.Common.{◌≡◌, ℕ, Bool, true, false, ◌==◌, List, [], ◌∷◌, ◌++◌, Some, arith, eq-eqb, if◌then◌else◌}
 use Rattle.vc_process.specs.declared.datum.Datum.{Datum}
-use Rattle.vc_process.specs.ProcessStep.{ProcessStep, Offers, Wants, Chooses, Stops, Meets, Rests, Finishes, Receives}
 use Rattle.vc_process.specs.Values.{Store}
 use Rattle.vc_occam.specs.Completeness.{Steps, no_more, one_more}
-use Rattle.vc_free.specs.Private.Delays.{plain_quiet, plain_finish, plain_want, plain_choose, plain_stop, after_output, after_input, after_guard, before_end}
+use Rattle.vc_free.specs.Private.Delays.{plain_quiet, plain_finish, plain_want, plain_choose, plain_stop, after_output, before_end}
 use Rattle.vc_occam.specs.InUse.{UsesLawfully}
-use Rattle.vc_occam.specs.Laws.{Inserted, inserted_here, inserted_later}
 use Rattle.vc_occam.specs.Remains.{Rest}
 use Rattle.vc_occam.specs.SiteActions.{SiteAction}
 use Rattle.vc_occam.specs.SiteActions as action
-use Rattle.vc_occam.specs.States.{State, StepsTo, Does, meeting, Waiting, output, input, waiting}
+use Rattle.vc_occam.specs.States.{State, StepsTo}
 use Rattle.vc_occam.specs.Traces.{Comm, Out, Fin, In, Stp}
-use Rattle.vc_occam.proofs.Counts.{out_of, fin_of, outs, fins}
-use Rattle.vc_free.proofs.Delays.{delay, meld, an_input, a_guard}
+use Rattle.vc_occam.proofs.Counts.{out_of, fin_of}
+use Rattle.vc_free.proofs.Delays.{delay}
 use Rattle.vc_occam.proofs.Independence.{Swap, swap_here, swap_later, an_output, an_end}
 use Rattle.vc_occam.proofs.Preservation.{lawful, step_uses}
-use Rattle.vc_occam.proofs.StepWaits.{step_waits}
 
 -- what a site does at once where this is communicated
 pub data Tells : SiteAction → Comm → Type 0 where

@@ -3,7 +3,6 @@
 use Rattle.std.proofs.Common.{◌≡◌, ℕ, zero, suc, ◌+◌, ◌≤◌, ◌<◌, Bool, true, false, refl, sym, ap, subst, ◌∙◌, List, [], ◌∷◌, length, map, get_or, inl, inr, arith, ◌==◌, eq-eqb, if◌then◌else◌}
 use Rattle.std.proofs.lemmas.Bool.{cases_lt}
 use Rattle.std.proofs.lemmas.Option.{slice_get-get_or}
-use Rattle.vc_accepted.proofs.Main.{all_told}
 use Rattle.vc_accepted.proofs.Processes.{named}
 use Rattle.vc_accepted.specs.Begin.{node_plan, no_node, begin_of}
 use Rattle.vc_accepted.specs.NetworkOf.{network_of, home_in}
@@ -13,7 +12,6 @@ use Rattle.vc_free.proofs.Atomics.{do_all}
 use Rattle.vc_free.proofs.Places.{arrived}
 use Rattle.vc_free.proofs.PartTraces.{Split, split}
 use Rattle.vc_free.specs.Converse.{NetworkRunsIt}
-use Rattle.vc_machine.specs.Rendezvous as rendezvous
 use Rattle.vc_machine.specs.Rendezvous.{View, DoesAll, nothing_yet}
 use Rattle.vc_network.proofs.Steps.{InnerFits}
 use Rattle.vc_network.specs.Actors.{Network}
@@ -25,11 +23,12 @@ use Rattle.vc_occam.specs.Completeness.{EndsAs}
 use Rattle.vc_occam.specs.NodeTraces.{so_far}
 use Rattle.vc_occam.specs.Remains.{Done}
 use Rattle.vc_occam.specs.States.{State}
-use Rattle.vc_occam.specs.Traces.{Comm, End, Open, Ended, Trace, cut, par}
+use Rattle.vc_occam.specs.Traces.{Comm, Out, Fin, In, Stp, End, Open, Ended, Trace, cut, par}
 use Rattle.vc_placement.proofs.Linearizability.{linearizes}
+use Rattle.vc_placement.proofs.Networks.{invisible}
 use Rattle.vc_placement.proofs.OneNode.{empty, same_node}
 use Rattle.vc_placement.proofs.OneNodeRuns.{of_channel, without_is}
-use Rattle.vc_placement.specs.Linearization.{completed}
+use Rattle.vc_placement.specs.Linearization.{completed, points}
 use Rattle.vc_placement.specs.OneNode.{HaveEnded}
 use Rattle.vc_placement.specs.Parallel.{without_nodes, IsEnded}
 use Rattle.vc_plan.specs.Accepted.{IsAccepted}
@@ -62,6 +61,21 @@ home_inside (x ∷ cs) (suc c) n = home_inside cs c n
 
 inner_completed : (v : View) → InnerFits v → completed v ≡ v
 inner_completed v f = λ i. record { offered = f.taken i; taken = v.taken; finished = (ap length f.taken ∙ sym f.finished) i; stopped = v.stopped }
+
+-- the points of a list, whoever makes them
+abbrev its_points : List Comm → List Comm
+its_points [] = []
+its_points (Out c x ∷ ks) = its_points ks
+its_points (Fin c ∷ ks) = its_points ks
+its_points (In c x ∷ ks) = In c x ∷ its_points ks
+its_points (Stp c ∷ ks) = Stp c ∷ its_points ks
+
+points_without : (ks : List (ℕ × Comm)) → without_nodes (points ks) ≡ its_points (without_nodes ks)
+points_without [] = refl
+points_without ((n, Out c x) ∷ ks) = points_without ks
+points_without ((n, Fin c) ∷ ks) = points_without ks
+points_without ((n, In c x) ∷ ks) = ap (λ l. In c x ∷ l) (points_without ks)
+points_without ((n, Stp c) ∷ ks) = ap (λ l. Stp c ∷ l) (points_without ks)
 
 pub ended_done : (s : State) (x : End) → IsEnded x → EndsAs s x → s.rest ≡ Done
 ended_done s (Ended f) i e = e.0
@@ -115,10 +129,14 @@ module _ (p one : Plan) (waiting : Waiting) (t : Network (Actor Process) Token) 
     | inr past ↦ (Open, subst (λ l. Trace (written (node_plan p n).process) (begin_of p n).state.store l Open) (sym (its_parts.high n (let z : 0 + length p.nodes ≤ n = omega arith in z))) cut, λ l e. absurd (omega arith))
   ]
 
+  same_told : without_nodes its_parts.told ≡ without_nodes told
+  same_told =
+      let one_count = ap length is.is.nodes in
+      its_parts.same ∙ all_of_first told (λ n l. tells.by_no_other n (omega arith))
+
   same_on : (c : ℕ) → on c told ≡ on c its_parts.told
   same_on c =
-      let one_count = ap length is.is.nodes in
-      sym (without_is c told) ∙ ap (of_channel c) (sym (all_of_first told (λ n l. tells.by_no_other n (omega arith))) ∙ sym its_parts.same) ∙ without_is c its_parts.told
+      sym (without_is c told) ∙ ap (of_channel c) (sym same_told) ∙ without_is c its_parts.told
 
   ended_one : HaveEnded one t → IsEnded its_end
   unfolding its_end
@@ -131,12 +149,13 @@ module _ (p one : Plan) (waiting : Waiting) (t : Network (Actor Process) Token) 
 
 pub network_runs : NetworkRunsIt
 network_runs p one waiting es t acc is acc1 ranks happen =
-    let tells = all_told one waiting es t acc1 happen in
-    let told = tells.0 in
-    let parts = its_parts p one waiting t acc is told tells.1 in
-    let trace = its_trace p one waiting t acc is told tells.1 in
+    let seen = invisible one waiting es t acc1 happen in
+    let told = seen.0.list in
+    let tells = seen.0.told in
+    let parts = its_parts p one waiting t acc is told tells in
+    let trace = its_trace p one waiting t acc is told tells in
     let r = linearizes (λ n. written (node_plan p n).process) (λ n. (begin_of p n).state.store) (λ n. (trace n).0) (view (network_of one) t) parts.told (λ n. (trace n).1)
-    (λ c. subst (λ l. DoesAll nothing_yet l (view (network_of one) t c)) (same_on p one waiting t acc is told tells.1 c) (tells.1.on_channel c)) in
+    (λ c. subst (λ l. DoesAll nothing_yet l (view (network_of one) t c)) (same_on p one waiting t acc is told tells c) (tells.on_channel c)) in
     let ends : ℕ → End = λ n. (r.1.by_node n).0 in
     let done = do_all p waiting ends (λ c. completed (view (network_of one) t c)) r.0 acc ranks (record {
       by_node = λ n less. (r.1.by_node n).1;
@@ -146,9 +165,15 @@ network_runs p one waiting es t acc is acc1 ranks happen =
     }) in
     let good = (arrived one waiting acc1 es t happen).good in
     record {
+      list = told;
+      told = tells;
+      follows = seen.1;
+      atomics = r.0;
+      same_points = ap without_nodes r.1.same_points ∙ points_without parts.told ∙ ap its_points (same_told p one waiting t acc is told tells) ∙ sym (points_without told);
       events = done.events;
       end = done.end;
       happen = done.happen;
+      order = done.order;
       on_channel = λ c less. (
           let h : (m : ℕ) × (home (network_of one) c ≡ network.Inside m) =
           subst (λ cs. (m : ℕ) × (get_or (map home_in cs) c (network.Inside (length one.nodes)) ≡ network.Inside m)) (sym is.channels) (home_inside p.channels c (length one.nodes)) in
@@ -156,7 +181,7 @@ network_runs p one waiting es t acc is acc1 ranks happen =
           );
       ended = λ all n less. (
           let x = done.by_node n less in
-          let e = (trace n).2 less (ended_one p one waiting t acc is told tells.1 all) in
+          let e = (trace n).2 less (ended_one p one waiting t acc is told tells all) in
           let stays : ends n ≡ Ended e.0 = (r.1.by_node n).2 e.0 e.1 in
           (x.0, x.1, ended_done x.0.process.state (ends n) (e.0, stays) x.2)
           );

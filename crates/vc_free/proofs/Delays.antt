@@ -1,5 +1,5 @@
 -- Of two neighbouring steps that are apart the second may be made first.
-use Rattle.std.proofs.Common.{◌≡◌, ℕ, ℤ, true, false, eqb, refl, sym, ap, subst, ◌∙◌, List, [], ◌∷◌, Option, Some, None, ◌⊎◌, inl, inr}
+use Rattle.std.proofs.Common.{◌≡◌, ℕ, ℤ, true, false, eqb, refl, sym, ap, subst, ◌∙◌, List, [], ◌∷◌, Some, None, ◌⊎◌, inl, inr}
 use Rattle.std.proofs.lemmas.Bool.{eqb-true}
 use Rattle.std.specs.List.{Contains}
 use Rattle.vc_process.specs.declared.datum.Datum.{Datum}
@@ -7,11 +7,11 @@ use Rattle.vc_process.proofs.Lists.{none}
 use Rattle.vc_process.specs.Syntax.{Proc, Procs}
 use Rattle.vc_process.specs.Usage.{Set}
 use Rattle.vc_process.specs.Values.{Store}
-use Rattle.vc_occam.specs.SiteActions.{SiteAction, Quiet, Offer, Finish, Want, Choose, Message, StopChannel}
+use Rattle.vc_occam.specs.SiteActions.{SiteAction, Want, Choose, Message}
 use Rattle.vc_occam.specs.Remains.{Rest, Done, Then, Turns, Beside, then_on, turns_on, index_on, beside_on, Step, does_offer, does_finish, does_input, waits_input, gets, does_choose, waits_choose, in_then, in_turns, in_left, in_right, changes_rest, uses_rest, Apart, KeepsVariablesApart}
 use Rattle.vc_occam.specs.States.{output, input, waiting}
-use Rattle.vc_occam.specs.Traces.{Comm, Fin, In, set}
-use Rattle.vc_free.specs.Private.Delays.{Plain, plain_quiet, plain_finish, plain_want, plain_choose, plain_stop, MayDelay, after_output, after_input, after_guard, before_end, Swapped, StepsCanBeDelayed}
+use Rattle.vc_occam.specs.Traces.{Comm, set}
+use Rattle.vc_free.specs.Private.Delays.{plain_quiet, plain_finish, plain_want, plain_choose, plain_stop, MayDelay, after_output, after_input, after_guard, before_end, Swapped, StepsCanBeDelayed}
 use Rattle.vc_occam.proofs.Agreement.{Written, write, AllIn, like}
 use Rattle.vc_occam.proofs.Insertion.{is_inserted}
 use Rattle.vc_occam.proofs.Sites.{clash, not_true}

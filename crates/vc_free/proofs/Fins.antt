@@ -1,15 +1,14 @@
 -- Where all nodes together finish as many outputs on each channel before a list is rewritten as after, no output is finished by it.
-use Rattle.std.proofs.Common.{◌≡◌, ℕ, zero, suc, ◌+◌, ◌≤◌, ◌<◌, Bool, true, false, ◌==◌, refl, sym, ap, subst, ◌∙◌, List, [], ◌∷◌, ◌++◌, map, inl, inr, arith, eq-eqb, ne_eqb, if◌then◌else◌}
+use Rattle.std.proofs.Common.{◌≡◌, ℕ, zero, suc, ◌+◌, ◌≤◌, ◌<◌, Bool, true, false, ◌==◌, refl, sym, ap, subst, ◌∙◌, List, [], ◌∷◌, map, inl, inr, arith, eq-eqb, ne_eqb, if◌then◌else◌}
 use Rattle.std.proofs.lemmas.Bool.{cases_eq, cases_lt}
 use Rattle.vc_machine.specs.Rendezvous as rendezvous
 use Rattle.vc_machine.specs.Rendezvous.{View, Does, DoesAll}
-use Rattle.vc_process.specs.declared.datum.Datum.{Datum}
 use Rattle.vc_process.specs.Messages.{message}
 use Rattle.vc_occam.specs.Traces.{Comm, Out, Fin, In, Stp}
 use Rattle.vc_accepted.specs.OneList.{by, on}
 use Rattle.vc_free.proofs.Begun.{Dropped, dropped_here, dropped_later, Later, stays, swaps, drops}
-use Rattle.vc_occam.proofs.Counts.{out_of, fin_of, outs, fins}
-use Rattle.vc_occam.proofs.Independence.{Independent, Swap, swap_here, swap_later}
+use Rattle.vc_occam.proofs.Counts.{fin_of, fins}
+use Rattle.vc_occam.proofs.Independence.{Swap, swap_here, swap_later}
 use Rattle.vc_occam.proofs.Responses.{Insertion, insertion_here, insertion_later}
 use Rattle.vc_placement.proofs.Completions as completions
 use Rattle.vc_placement.proofs.Completions.{Withdrawal, withdrawal_here, withdrawal_later, Response, response_here, response_later, Rewrites, withdraws, responds}

@@ -9,7 +9,6 @@ use Rattle.vc_process.specs.ProcessStep.{Offers as Outputs, Chooses, Wants as In
 use Rattle.vc_occam.proofs.StepWaits.{waits_after}
 use Rattle.vc_vcp.specs.Carrier.{InHalf, Carrier}
 use Rattle.vc_vcp.specs.Links as links
-use Rattle.vc_vcp.specs.Steps as steps
 use Rattle.vc_network.specs.Actors.{Label}
 use Rattle.vc_network.specs.Actors.Label.{Own, Takes, Puts}
 use Rattle.vc_network.specs.Network.{Act, Proc, Take, Put, Fct, Pass, Node, Moves, NodeStep}

@@ -7,6 +7,7 @@ pub mod Stages
 pub mod Exchange
 pub mod Runs
 pub mod Main
+pub mod Orders
 pub mod MoveEvents
 pub mod Atomics
 pub mod Inverse

@@ -7,11 +7,13 @@ use Rattle.vc_accepted.specs.NetworkOf.{network_of}
 use Rattle.vc_accepted.specs.Process.{Process, does, Goes}
 use Rattle.vc_free.proofs.Exchange.{calm, Exchanging, exchanged}
 use Rattle.vc_free.proofs.Main.{delivers}
+use Rattle.vc_free.proofs.Orders.{order_longer}
 use Rattle.vc_free.proofs.Outcomes.{SameOut, SameIn}
 use Rattle.vc_free.proofs.Places.{Arrived, happened}
 use Rattle.vc_free.proofs.Runs.{RestsAt, OffersAt, TakesAt, StopsAt, EndsAt, want_waits, choose_waits}
 use Rattle.vc_free.proofs.Stages.{State, got_more, finished_more, IsAt, process_changes, out_changes, in_changes, inner_changes}
 use Rattle.vc_free.specs.Delivery.{in_half, HasDelivered, Delivers}
+use Rattle.vc_free.specs.Together.{KeepsOrder}
 use Rattle.vc_machine.proofs.Basics.{put-same, put-other}
 use Rattle.vc_machine.proofs.Halves.{last_of, waiting_when_held}
 use Rattle.vc_machine.proofs.Labels.{Phase, Calm, Coming, Waiting as WaitingPhase, Returning, PhaseFits, LeftAfter}
@@ -44,6 +46,7 @@ use Rattle.vc_packets.specs.Headers.{spelled}
 use Rattle.vc_packets.specs.Pieces.{Pieces, joined}
 use Rattle.vc_packets.specs.Spellings.{piece_packet}
 use Rattle.vc_packets.specs.declared.packet.Packet.{Packet}
+use Rattle.vc_placement.specs.Linearization.{Atomic}
 use Rattle.vc_plan.specs.Accepted.{IsAccepted}
 use Rattle.vc_plan.specs.Dependencies.{HasRanks}
 use Rattle.vc_plan.specs.declared.plan.Plan.{Plan}
@@ -131,7 +134,7 @@ waits_now q j (Some g) c sent y t out st =
       gets = record { comms = In c y ∷ []; does = (j, y, refl, w.gets); inside = refl };
     }
 
-module _ (p : Plan) (waiting : Waiting) (acc : IsAccepted p) (ranks : HasRanks p) where
+module _ (p : Plan) (waiting : Waiting) (acc : IsAccepted p) (ranks : HasRanks p) (done : List Atomic) where
   abbrev N : network.Plan
   N = network_of p
 
@@ -141,11 +144,12 @@ module _ (p : Plan) (waiting : Waiting) (acc : IsAccepted p) (ranks : HasRanks p
   input_there : (c v : ℕ) (ab : Bool) → home N c ≡ Way v ab → (ends N (sink_node N (Way v ab))).input c ≡ Some (node_end (end_of (virtual_link N v) (not ab)))
   input_there c v ab h = ap (input_end N (sink_node N (Way v ab))) h ∙ end_there (end_of (virtual_link N v) (not ab))
 
-  -- a state to which events have led
+  -- a state to which events have led that do this list in its order, and perhaps more
   pub record Made (procs : ℕ → Process) (views : ℕ → View) (wants : ℕ → Bool) : Type 0 where
     pub state : State
     pub past : List (ActBy Act)
     pub happen : HappenAll N waiting does (begins N (begin_of p)) past state
+    pub order : KeepsOrder p waiting done past
     pub arrived : Arrived p waiting state
     pub at : IsAt p state procs views wants
 
@@ -168,9 +172,9 @@ module _ (p : Plan) (waiting : Waiting) (acc : IsAccepted p) (ranks : HasRanks p
   abbrev pub AreEven : (ℕ → View) → Type 0
   AreEven views = (d v : ℕ) (ab : Bool) → home N d ≡ Way v ab → (views d).finished ≡ length (views d).taken
 
-  abbrev later_made : (made_at : State) (past : List (ActBy Act)) → HappenAll N waiting does (begins N (begin_of p)) past made_at → (d : Delivers p waiting made_at) (procs : ℕ → Process) (views : ℕ → View) (wants : ℕ → Bool) →
+  abbrev later_made : (made_at : State) (past : List (ActBy Act)) → HappenAll N waiting does (begins N (begin_of p)) past made_at → KeepsOrder p waiting done past → (d : Delivers p waiting made_at) (procs : ℕ → Process) (views : ℕ → View) (wants : ℕ → Bool) →
       Arrived p waiting d.end × IsAt p d.end procs views wants → Made procs views wants
-  later_made s past h d procs views wants r = record { state = d.end; past = past ++ d.events; happen = more_events past d.events (begins N (begin_of p)) s d.end h d.happen; arrived = r.0; at = r.1 }
+  later_made s past h order d procs views wants r = record { state = d.end; past = past ++ d.events; happen = more_events past d.events (begins N (begin_of p)) s d.end h d.happen; order = order_longer p waiting done past d.events order; arrived = r.0; at = r.1 }
 
   abbrev its_delivery : {procs : ℕ → Process} {views : ℕ → View} {wants : ℕ → Bool} (m : Made procs views wants) → Delivers p waiting m.state
   its_delivery m = delivers p waiting m.past m.state acc ranks m.happen
@@ -179,7 +183,7 @@ module _ (p : Plan) (waiting : Waiting) (acc : IsAccepted p) (ranks : HasRanks p
   pub calmed : {procs : ℕ → Process} {views : ℕ → View} {wants : ℕ → Bool} → Made procs views wants → AreEven views → ((d : ℕ) → wants d ≡ false) → (m : Made procs views wants) × HasDelivered p waiting m.state
   calmed {procs} {views} {wants} m even idle =
       let d = its_delivery m in
-      (later_made m.state m.past m.happen d procs views wants (calm p waiting acc d.events m.state d.end procs views wants m.arrived m.at even idle d.no_moves d.happen), d.delivered)
+      (later_made m.state m.past m.happen m.order d procs views wants (calm p waiting acc d.events m.state d.end procs views wants m.arrived m.at even idle d.no_moves d.happen), d.delivered)
 
   -- an exchange goes through
   pub went_through : {procs0 : ℕ → Process} {views0 : ℕ → View} {wants0 : ℕ → Bool} (m : Made procs0 views0 wants0) (procs : ℕ → Process) (views : ℕ → View) (wants : ℕ → Bool) (c v : ℕ) (ab : Bool) (h : home N c ≡ Way v ab) (sent : List ℕ)
@@ -189,7 +193,7 @@ module _ (p : Plan) (waiting : Waiting) (acc : IsAccepted p) (ranks : HasRanks p
       (put (put views c (got_more (views c) sent)) c (finished_more (put views c (got_more (views c) sent) c))) (put wants c false)
   went_through m procs views wants c v ab h sent after_out after_in x apart goes lawful others even offers less =
       let d = its_delivery m in
-      later_made m.state m.past m.happen d _ _ _
+      later_made m.state m.past m.happen m.order d _ _ _
       (exchanged p waiting acc procs views wants c v ab h sent after_out after_in apart goes lawful others even offers d.events m.state d.end m.arrived x d.no_moves d.happen d.delivered less)
 
   module _ (procs : ℕ → Process) (views : ℕ → View) (wants : ℕ → Bool) (made : Made procs views wants) (n : ℕ) (few : n < length p.nodes) where
@@ -222,6 +226,7 @@ module _ (p : Plan) (waiting : Waiting) (acc : IsAccepted p) (ranks : HasRanks p
           state = after b;
           past = made.past ++ e ∷ [];
           happen = one_more_event made.past (begins N (begin_of p)) made.state (after b) e made.happen k;
+          order = order_longer p waiting done made.past (e ∷ []) made.order;
           arrived = happened p waiting acc made.state (after b) e made.arrived k;
           at = at;
         }

@@ -1,6 +1,6 @@
 -- Where a free placement of a program that never gets stuck is at rest, all its processes have ended: else they would be stuck.
 use Rattle.std.proofs.Common.{◌≡◌, ◌≢◌, ◌⊎◌, ℕ, ◌<◌, inl, inr, refl, sym, ap₂, subst, length, arith}
-use Rattle.vc_accepted.specs.Begin.{node_plan, begin_of}
+use Rattle.vc_accepted.specs.Begin.{begin_of}
 use Rattle.vc_accepted.specs.NetworkOf.{network_of}
 use Rattle.vc_accepted.specs.OneList.{by}
 use Rattle.vc_free.proofs.Quiet.{quiet_networks}
@@ -12,7 +12,6 @@ use Rattle.vc_occam.specs.Completeness.{Steps}
 use Rattle.vc_occam.specs.Opening.{opening}
 use Rattle.vc_occam.specs.Remains.{Rest, Done, Stopped, Fresh, Finishing, Getting, Then, Turns, Beside}
 use Rattle.vc_placement.specs.Linearization.{all_comms, completed}
-use Rattle.vc_plan.specs.Limits.{kinds_of}
 use Rattle.vc_plan.specs.declared.plan.Plan.{Plan}
 
 -- a process has ended or not

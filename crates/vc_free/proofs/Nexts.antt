@@ -1,7 +1,7 @@
 -- Each step of the network keeps what is good, and what it says is its process's part and each channel's part.
 use Rattle.std.proofs.Common.{◌≡◌, ◌≢◌, ℕ, ◌+◌, ◌<◌, ◌≤◌, inl, inr, true, false, List, [], ◌∷◌, ◌++◌, length, Option, Some, None, refl, sym, ap, subst, ◌∙◌, arith, append-nil, length-append, slice_get}
 use Rattle.std.proofs.lemmas.Bool.{cases_eq}
-use Rattle.vc_network.specs.Actors.{Label, Network, Step, taken_off, put_on, act_of}
+use Rattle.vc_network.specs.Actors.{Label, Network, taken_off, put_on, act_of}
 use Rattle.vc_network.specs.Actors.Label.{Own, Takes, Puts}
 use Rattle.vc_machine.specs.Paths.{Net, AtNode, AtSwitch}
 use Rattle.vc_machine.specs.Rendezvous.{View, Comm, Out, In, Fin, Stp, DoesAll, part}
@@ -26,7 +26,7 @@ use Rattle.vc_switch.specs.Switch as switch
 use Rattle.vc_network.specs.Plan.{body_limit, Plan, Inside, home, ends, way_from, back, switch_plan, net_of, IsAccepted, IsInto}
 use Rattle.vc_network.specs.Processes.{Move, Offer, Want, Choose, Stopch, Inner, Quiet, StepRelation, Trace, none, more, comms, input_of}
 use Rattle.vc_process.specs.ProcessStep.{ProcessStep, Offers, Wants, Chooses, Stops, Meets, Rests, Finishes, Receives}
-use Rattle.vc_network.specs.Network.{Act, Proc, Take, Put, Route, Fct, Pass, Node, Actor, IsNode, IsSwitch, exchanged, ByHalves, Moves, GoesOn, NodeStep, SwitchStep, Local}
+use Rattle.vc_network.specs.Network.{Act, Proc, Take, Put, Route, Fct, Pass, Node, Actor, IsNode, IsSwitch, exchanged, ByHalves, Moves, GoesOn, NodeStep, SwitchStep}
 use Rattle.vc_network.specs.Still.{IsNoMove}
 use Rattle.vc_network.specs.Views.{vcp_of, inner_of, switch_of, vcps, switches, view}
 use Rattle.vc_network.proofs.Backs.{back_into}

@@ -1,21 +1,20 @@
 -- After any events one list tells all that the nodes communicate, and each node's part of it is made by its process step by step, as if
 -- each input had begun where it has its message.
-use Rattle.std.proofs.Common.{◌≡◌, ◌≢◌, ℕ, zero, suc, ◌+◌, ◌≤◌, ◌<◌, inl, inr, ◌⊎◌, Bool, true, false, refl, sym, ap, ap₂, subst, ◌∙◌, List, [], ◌∷◌, ◌++◌, length, Option, Some, None, arith, append-nil, append_assoc, if◌then◌else◌, ◌==◌, eq-eqb, ne_eqb}
-use Rattle.std.proofs.lemmas.Bool.{cases_lt, cases_eq}
+use Rattle.std.proofs.Common.{◌≡◌, ◌≢◌, ℕ, suc, ◌+◌, ◌≤◌, ◌<◌, inl, inr, ◌⊎◌, Bool, true, false, refl, sym, ap, subst, ◌∙◌, List, [], ◌∷◌, ◌++◌, length, Option, Some, None, arith, append-nil, if◌then◌else◌, ◌==◌, eq-eqb, ne_eqb}
+use Rattle.std.proofs.lemmas.Bool.{cases_eq}
 use Rattle.std.proofs.lemmas.List.{map-append}
-use Rattle.std.specs.List.{Contains}
 use Rattle.vc_machine.proofs.Basics.{put-same, put-other, every_put}
 use Rattle.vc_packets.specs.Kind.{kind}
 use Rattle.vc_packets.specs.declared.kind.Kind.TheVariants.{Ack, Piece}
 use Rattle.vc_packets.specs.declared.mark.Mark.{Mark}
 use Rattle.vc_packets.specs.declared.mark.Mark.TheVariants.{Eop, Eom}
 use Rattle.vc_process.specs.declared.datum.Datum.{Datum}
-use Rattle.vc_network.specs.Actors.{Label, Network, ActBy, Alike, Step}
+use Rattle.vc_network.specs.Actors.{Label, Network, ActBy, Step}
 use Rattle.vc_network.specs.Actors.Label.{Own, Takes, Puts}
 use Rattle.vc_machine.specs.Links.{Tokens, no_tokens}
 use Rattle.vc_machine.specs.Rendezvous as rendezvous
 use Rattle.vc_machine.specs.Rendezvous.{View, DoesAll, part, nothing_yet}
-use Rattle.vc_network.specs.Network.{Act, Proc, Take, Put, Fct, Pass, Node, Actor, IsNode, IsSwitch, Local, Moves, GoesOn, NodeStep, SwitchStep, Happens, HappenAll, begins}
+use Rattle.vc_network.specs.Network.{Act, Proc, Take, Put, Fct, Pass, Node, Actor, IsNode, IsSwitch, Local, Moves, GoesOn, NodeStep, SwitchStep, HappenAll, begins}
 use Rattle.vc_network.specs.Processes as moves
 use Rattle.vc_network.specs.Processes.{comms, input_of}
 use Rattle.vc_network.specs.Views.{Said, view, said_by, all_said}
@@ -23,13 +22,11 @@ use Rattle.vc_network.specs.Plan as network
 use Rattle.vc_network.proofs.Main.{good_start, first_node, first_view, part_append, does_append}
 use Rattle.vc_network.proofs.NodeLinks.{said_by_pass}
 use Rattle.vc_network.proofs.Steps.{Good}
-use Rattle.vc_free.proofs.Nexts.{Next, said_in, node_next, switch_next}
+use Rattle.vc_free.proofs.Nexts.{said_in, node_next, switch_next}
 use Rattle.vc_packets.specs.Functions.{put}
 use Rattle.vc_process.specs.ProcessStep.{ProcessStep, Offers, Wants, Chooses, Stops, Meets, Rests, Finishes, Receives}
 use Rattle.vc_process.specs.declared.value_kind.ValueKind.{ValueKind}
 use Rattle.vc_process.specs.Numbering.{written}
-use Rattle.vc_occam.specs.InUse.{UsesLawfully}
-use Rattle.vc_occam.specs.Laws.{Inserted}
 use Rattle.vc_occam.specs.Sites.{OwnSites}
 use Rattle.vc_occam.proofs.Sites.{doing_keeps}
 use Rattle.vc_occam.proofs.Preorder.{at_first}
@@ -37,7 +34,7 @@ use Rattle.vc_occam.specs.States as occam
 use Rattle.vc_occam.specs.States.{waiting, output, input}
 use Rattle.vc_occam.specs.Traces.{Comm, Fin, In}
 use Rattle.vc_free.proofs.Begun.{Path, still}
-use Rattle.vc_free.proofs.PutOff.{total, total_inserted, is_out, is_in, Waits, no_wait, waits_map, Went, goes_with}
+use Rattle.vc_free.proofs.PutOff.{total, total_inserted, is_out, is_in, Waits, no_wait, waits_map, goes_with}
 use Rattle.vc_occam.proofs.StepWaits.{begin_waits, step_waits}
 use Rattle.vc_plan.specs.Limits.{kinds_of}
 use Rattle.vc_plan.specs.declared.plan.Plan.{Plan}
@@ -47,7 +44,7 @@ use Rattle.vc_accepted.specs.OneList.{by}
 use Rattle.vc_accepted.specs.Process.{Process, Goes, does}
 use Rattle.vc_free.proofs.StepsSaid.{goes_of, step_said, good_after}
 use Rattle.vc_accepted.proofs.StepTraces.{AreSaid, IsGood}
-use Rattle.vc_accepted.proofs.Concatenation.{AllSaid, one_of_all}
+use Rattle.vc_accepted.proofs.Concatenation.{AllSaid}
 use Rattle.vc_switch.specs.Switch.{Switch}
 use Rattle.vc_switch.specs.Waiting.{Waiting}
 use Rattle.vc_tokens.specs.Tokens.{Token}

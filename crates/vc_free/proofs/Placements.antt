@@ -56,7 +56,8 @@ module _ (p q : Plan) (s : Network (Actor Process) Token) (hs : List Atomic) (sa
 
 pub do_the_same : FreePlacementsDoTheSame
 do_the_same p q rule other es s acc acc2 ranks same happen =
-    let found = (invisible p rule es s acc happen).0 in
+    let seen = invisible p rule es s acc happen in
+    let found = seen.0 in
     let hs = found.atomics in
     let lin = found.linearization in
     let part = parts p q s hs same lin in
@@ -69,9 +70,12 @@ do_the_same p q rule other es s acc acc2 ranks same happen =
       on_channel = λ c less. lin.on_channel c (omega arith);
     }) in
     record {
+      did = found;
+      follows = seen.1;
       events = done.events;
       end = done.end;
       happen = done.happen;
+      order = done.order;
       on_channel = λ c less. done.on_channel c (omega arith);
       ended = λ all n less. (let x = done.by_node n less in (x.0, x.1, ended_done x.0.process.state (part n).end ((part n).ended less all) x.2));
     }

@@ -1,23 +1,22 @@
 -- What waits on a path, and inputs that wait: a process that went on with them had them, as if each had begun where its message came.
-use Rattle.std.proofs.Common.{◌≡◌, ℕ, zero, suc, ◌+◌, ◌≤◌, Bool, true, false, ◌==◌, refl, sym, ap, subst, ◌∙◌, List, [], ◌∷◌, ◌++◌, Option, Some, None, ◌⊎◌, inl, inr, arith, eq-eqb, append_assoc, append-nil, if◌then◌else◌}
+use Rattle.std.proofs.Common.{◌≡◌, ℕ, suc, ◌+◌, ◌≤◌, Bool, true, false, ◌==◌, refl, sym, ap, subst, ◌∙◌, List, [], ◌∷◌, ◌++◌, Option, Some, None, ◌⊎◌, inl, inr, arith, eq-eqb, append_assoc, if◌then◌else◌}
 use Rattle.std.proofs.lemmas.List.Elements.{Contains-append_left, Contains-append_right, Contains-append_cases}
 use Rattle.std.specs.List.{Contains}
 use Rattle.vc_process.proofs.Lists.{none, only, front_or}
 use Rattle.vc_process.specs.declared.datum.Datum.{Datum}
 use Rattle.vc_process.specs.ProcessStep.{ProcessStep, Offers, Wants, Chooses, Stops, Meets, Rests, Finishes, Receives}
 use Rattle.vc_process.specs.Syntax.{Guards, no_guards, guard}
-use Rattle.vc_process.specs.Values.{Store, datum_of, holds}
+use Rattle.vc_process.specs.Values.{Store, holds}
 use Rattle.std.specs.Prelude.{is_some}
-use Rattle.vc_free.specs.Private.Delays.{plain_quiet, plain_finish, plain_want, plain_choose, plain_stop, after_output, after_input, after_guard, before_end}
+use Rattle.vc_free.specs.Private.Delays.{after_input, after_guard}
 use Rattle.vc_occam.specs.First.{own, choices, all_decided, is_true}
 use Rattle.vc_occam.specs.InUse.{UsesLawfully}
 use Rattle.vc_occam.specs.Laws.{Inserted, inserted_here, inserted_later}
-use Rattle.vc_occam.specs.MoveSites.{site_of}
-use Rattle.vc_occam.specs.Remains.{Rest, Done, Then, Turns, Beside, then_on, turns_on, index_on, beside_on, Step, does_offer, waits_input, waits_choose, in_then, in_turns, in_left, in_right}
+use Rattle.vc_occam.specs.Remains.{Rest, Done, turns_on, beside_on, Step, does_offer, waits_input, waits_choose, in_then, in_turns, in_left, in_right}
 use Rattle.vc_occam.specs.SiteActions.{SiteAction}
 use Rattle.vc_occam.specs.SiteActions as action
 use Rattle.vc_occam.specs.States.{State, StepsTo, Does, meeting, Waiting, output, input, waiting}
-use Rattle.vc_occam.specs.Traces.{Comm, Out, Fin, In, Stp}
+use Rattle.vc_occam.specs.Traces.{Comm, Out, Fin, In}
 use Rattle.vc_occam.specs.declared.moves.Move.{Move}
 use Rattle.vc_occam.specs.declared.moves.Move.TheVariants as move
 use Rattle.vc_free.proofs.Begun.{Tells, tells_out, tells_end, tells_want, tells_choose, tells_stop, Path, still, quiet, tells, append, path_uses, Outs, no_out, one_out}

@@ -1,11 +1,10 @@
 -- Where no event can happen on a free network, nothing goes on among its processes: each message that was offered and not taken is held
 -- where no input has begun, so an input or guard that could begin there would be an event.
-use Rattle.std.proofs.Common.{◌≡◌, ◌≢◌, ◌↔◌, ℕ, zero, suc, ◌+◌, ◌<◌, ◌≤◌, Bool, true, false, not, ◌⊎◌, inl, inr, List, [], ◌∷◌, ◌++◌, length, Option, Some, None, refl, sym, ap, ap₂, subst, ◌∙◌, arith, append-nil, length-append, ◌==◌, if◌then◌else◌, eq-eqb, ne_eqb, eqb-true}
+use Rattle.std.proofs.Common.{◌≡◌, ◌≢◌, ◌↔◌, ℕ, suc, ◌+◌, ◌<◌, ◌≤◌, Bool, true, false, not, ◌⊎◌, inl, inr, List, [], ◌∷◌, ◌++◌, length, Option, Some, None, refl, sym, ap, subst, ◌∙◌, arith, length-append, ◌==◌, if◌then◌else◌, eq-eqb, ne_eqb, eqb-true}
 use Rattle.std.proofs.lemmas.Bool.{cases_eq, cases_lt, or_left, or_right}
 use Rattle.std.proofs.lemmas.List.{length-map}
 use Rattle.std.proofs.lemmas.List.Elements.{Contains-append_cases}
-use Rattle.std.specs.List.{Contains, AllByRecursion}
-use Rattle.vc_machine.proofs.Basics.{put-same, put-other}
+use Rattle.std.specs.List.{Contains}
 use Rattle.vc_machine.proofs.Halves.{last_of, waiting_when_held}
 use Rattle.vc_machine.proofs.Labels.{Phase, Calm, Coming, Waiting as WaitingPhase, Returning, PhaseFits, LeftAfter}
 use Rattle.vc_machine.proofs.NodeSteps.{piece_for}
@@ -27,39 +26,36 @@ use Rattle.vc_network.specs.Views.{vcp_of, inner_of, vcps, source_node, sink_nod
 use Rattle.vc_packets.proofs.PieceLists.{has_pieces}
 use Rattle.vc_packets.specs.Functions.{put}
 use Rattle.vc_packets.specs.Headers.{spelled}
-use Rattle.vc_packets.specs.Pieces.{Pieces, joined}
+use Rattle.vc_packets.specs.Pieces.{Pieces}
 use Rattle.vc_packets.specs.Spellings.{piece_packet}
 use Rattle.vc_packets.specs.declared.packet.Packet.{Packet}
 use Rattle.vc_process.proofs.Lists.{none}
-use Rattle.vc_process.specs.Lawful.{inputs, inputs_all, inputs_guards, outputs, Lawfully}
+use Rattle.vc_process.specs.Lawful.{inputs, inputs_all, inputs_guards}
 use Rattle.vc_process.specs.Syntax.{Test, Guards, Procs}
 use Rattle.vc_process.specs.Syntax as syntax
 use Rattle.vc_process.specs.Usage.{◌∪◌, just}
-use Rattle.vc_process.specs.Messages.{message}
 use Rattle.vc_process.specs.Numbering.{written}
-use Rattle.vc_process.specs.ProcessStep.{Offers, Wants, Chooses, Stops, Meets, Rests}
+use Rattle.vc_process.specs.ProcessStep.{Offers, Wants, Chooses, Stops, Meets}
 use Rattle.vc_process.specs.Values.{Store}
 use Rattle.vc_process.specs.declared.value_kind.ValueKind.{ValueKind}
 use Rattle.vc_switch.specs.Waiting.{Waiting}
 use Rattle.vc_tokens.specs.Tokens.{Token}
 use Rattle.vc_vcp.specs.Carrier.{End, OutHalf, InHalf, Carrier, set_in, set_out, enqueue}
-use Rattle.vc_vcp.specs.Links.{Vcp}
 use Rattle.vc_vcp.specs.Steps as node
 use Rattle.vc_occam.specs.First.{own, first_moves}
 use Rattle.vc_occam.specs.InUse.{UsesLawfully, inputs_rest, outputs_rest}
 use Rattle.vc_occam.specs.Private.MoveSites.{partner}
-use Rattle.vc_occam.specs.Remains.{Rest, Done, Fresh, Finishing, Getting, Then, Turns, Beside, GuardAt, first, later, Step, does_input, does_choose, in_then, in_turns, in_left, in_right}
-use Rattle.vc_occam.specs.Sites.{OwnSites}
+use Rattle.vc_occam.specs.Remains.{Rest, Done, Finishing, Getting, Then, Turns, Beside, GuardAt, first, later, Step, does_input, does_choose, in_then, in_turns, in_left, in_right}
 use Rattle.vc_occam.specs.States as occam
 use Rattle.vc_occam.specs.States.{meeting, waiting, output, input, sent_by, bytes_or_none, came}
-use Rattle.vc_occam.specs.Traces.{Comm, End as TraceEnd, Open, Ended, Trace, cut}
+use Rattle.vc_occam.specs.Traces.{Comm, End as TraceEnd, Open, Trace, cut}
 use Rattle.vc_occam.specs.NodeTraces.{so_far}
 use Rattle.vc_occam.specs.declared.answer.Answer.{Answer}
 use Rattle.vc_occam.specs.declared.answer.Answer.TheVariants.{Nothing, Waits as Waiting_answer, Got}
 use Rattle.vc_occam.specs.declared.moves.Move.{Move}
 use Rattle.vc_occam.specs.declared.moves.Move.TheVariants as move
-use Rattle.vc_free.proofs.Begun.{Path, still, quiet, tells, as_steps, path_uses, Outs, no_out, one_out, later_path}
-use Rattle.vc_free.proofs.PutOff.{total, total_there, is_out, is_in, Waits, no_wait, input_waits, guard_waits, waits_map, waits_keep, outs_keep, outs_moves, waits_moves, Left, is_left, is_begun, is_chosen}
+use Rattle.vc_free.proofs.Begun.{Path, still, quiet, tells, as_steps, Outs, no_out, one_out, later_path}
+use Rattle.vc_free.proofs.PutOff.{total, total_there, is_out, is_in, Waits, no_wait, input_waits, guard_waits, waits_map, waits_keep, outs_moves, waits_moves, Left, is_left, is_begun, is_chosen}
 use Rattle.vc_occam.proofs.CutTraces.{steps_make_traces}
 use Rattle.vc_occam.proofs.Counts.{fins}
 use Rattle.vc_occam.proofs.Made.{can_be_made, able}
@@ -75,21 +71,19 @@ use Rattle.vc_plan.specs.declared.plan.Plan.{Plan}
 use Rattle.vc_accepted.specs.Begin.{node_plan, begin_of}
 use Rattle.vc_accepted.specs.NetworkOf.{network_of, home_in}
 use Rattle.vc_accepted.specs.OneList.{by, on}
-use Rattle.vc_accepted.specs.Process.{Process, does, Goes}
-use Rattle.vc_free.proofs.NodePaths.{all_run, SoFar, Ready, Matches, Stored, bit, under, at, at_same, OutEnd, InEnd}
-use Rattle.vc_accepted.proofs.StepTraces.{IsGood}
+use Rattle.vc_accepted.specs.Process.{Process, does}
+use Rattle.vc_free.proofs.NodePaths.{all_run, SoFar, Ready, Stored, bit, under, at, at_same}
 use Rattle.vc_accepted.proofs.Taken.{runs_too}
-use Rattle.vc_free.proofs.Fins.{rewrites_fins, as_later, without, below, all_below, each_same, shown_ends}
+use Rattle.vc_free.proofs.Fins.{rewrites_fins, as_later, all_below, each_same, shown_ends}
 use Rattle.vc_free.proofs.LinearizesWith.{linearizes_with}
-use Rattle.vc_free.specs.Delivery.{in_half, IsThrough, HasDelivered, Delivers}
+use Rattle.vc_free.specs.Delivery.{HasDelivered, Delivers}
 use Rattle.vc_free.proofs.RestKnown.{OutOf, out_way, out_inside, InTo, in_way, in_inside, Known}
 use Rattle.vc_accepted.specs.Alone.{GoesAlone}
-use Rattle.vc_free.specs.Rest.{TakesFrom, NothingGoesOn, Begun, nothing_begun, output_begun, input_begun, StandsStill}
+use Rattle.vc_free.specs.Rest.{TakesFrom, Begun, nothing_begun, output_begun, input_begun, StandsStill}
 use Rattle.vc_occam.specs.Completeness.{Steps}
 use Rattle.vc_placement.proofs.Completions.{Rewrites}
 use Rattle.vc_placement.specs.Linearization.{Atomic, all_comms, completed, IsLinearization, StaysEnded}
 use Rattle.vc_placement.specs.Placement.{CanPerform, IsLinearizationOf}
-use Rattle.vc_plan.specs.Limits.{kinds_of}
 
 -- ---- channels on virtual links
 

@@ -1,10 +1,9 @@
 -- What an accepted plan's processes begin with is known.
-use Rattle.std.proofs.Common.{◌≡◌, ◌≢◌, ℕ, zero, suc, ◌+◌, ◌<◌, ◌≤◌, Bool, true, false, not, ◌&&◌, ◌||◌, List, [], ◌∷◌, ◌++◌, length, map, get_or, nat_eq, slice_get, Option, Some, None, inl, inr, refl, sym, ap, ap₂, subst, ◌∙◌, arith, if◌then◌else◌, eq-eqb, eqb-true}
-use Rattle.std.proofs.lemmas.Bool.{cases_eq, cases_lt, or_right}
-use Rattle.std.proofs.lemmas.List.{length-map}
+use Rattle.std.proofs.Common.{◌≡◌, ℕ, zero, suc, ◌+◌, ◌<◌, ◌≤◌, Bool, true, false, not, ◌&&◌, ◌||◌, List, [], ◌∷◌, ◌++◌, length, map, get_or, nat_eq, slice_get, Some, inl, inr, refl, sym, ap, ap₂, subst, ◌∙◌, arith, if◌then◌else◌, eq-eqb, eqb-true}
+use Rattle.std.proofs.lemmas.Bool.{cases_lt, or_right}
 use Rattle.std.proofs.lemmas.Option.{slice_get-get_or}
 use Rattle.vc_accepted.proofs.AcceptedNetwork.{accepted, end_is}
-use Rattle.vc_accepted.proofs.Elements.{made_at, within}
+use Rattle.vc_accepted.proofs.Elements.{made_at}
 use Rattle.vc_accepted.proofs.Processes.{kind_on, begins_good}
 use Rattle.vc_accepted.proofs.StepTraces.{IsGood}
 use Rattle.vc_accepted.specs.Begin.{node_plan, no_node, begin_of, is_inside, numbers_inside}

@@ -1,18 +1,13 @@
 -- What a process does, step by step, is a trace of it, and tells the communications that its node makes.
-use Rattle.std.proofs.Common.{◌≡◌, ℕ, false, refl, sym, ap, subst, ◌∙◌, List, [], ◌∷◌, ◌++◌, Some, None, append_assoc}
-use Rattle.vc_machine.specs.Rendezvous as rendezvous
+use Rattle.std.proofs.Common.{◌≡◌, ℕ, false, refl, sym, ap, subst, ◌∙◌, List, [], ◌∷◌, Some, None}
 use Rattle.vc_process.specs.ProcessStep.{ProcessStep, Offers, Wants, Chooses, Stops, Meets, Rests, Finishes, Receives}
-use Rattle.vc_network.specs.Processes.{comms, Trace, none, more}
+use Rattle.vc_network.specs.Processes.{comms}
 use Rattle.vc_process.specs.declared.value_kind.ValueKind.{ValueKind}
-use Rattle.vc_occam.specs.InUse.{UsesLawfully}
 use Rattle.vc_process.specs.Messages.{message}
-use Rattle.vc_occam.specs.NodeTraces as node
-use Rattle.vc_occam.specs.Remains.{TraceRest}
-use Rattle.vc_occam.specs.States as occam
 use Rattle.vc_occam.specs.Traces.{Comm, Out, In, Fin, Stp}
 use Rattle.vc_process.specs.Usage.{Set}
-use Rattle.vc_occam.proofs.Preservation.{doing_keeps_use, doing_is_traced}
-use Rattle.vc_occam.proofs.KindPreservation.{kind_of, value_as, carries, StoreHasKinds, Sound, Tells, doing_tells, doing_stays}
+use Rattle.vc_occam.proofs.Preservation.{doing_keeps_use}
+use Rattle.vc_occam.proofs.KindPreservation.{value_as, carries, Tells, doing_tells, doing_stays}
 use Rattle.vc_occam.proofs.Openly.{offers_outside}
 use Rattle.vc_occam.proofs.Sites.{clash}
 use Rattle.vc_accepted.proofs.StepTraces.{AreSaid, Leads, IsGood}

@@ -5,12 +5,15 @@ use Rattle.vc_network.specs.Network.{Act, Actor, begins, HappenAll}
 use Rattle.vc_network.specs.Views.{view}
 use Rattle.vc_placement.specs.Linearization.{completed}
 use Rattle.vc_placement.specs.OneNode.{HaveEnded}
+use Rattle.vc_placement.specs.Placement.{Linearizes}
 use Rattle.vc_plan.specs.Accepted.{IsAccepted}
 use Rattle.vc_plan.specs.Dependencies.{HasRanks}
 use Rattle.vc_plan.specs.Limits.{kinds_of}
 use Rattle.vc_plan.specs.declared.plan.Plan.{Plan}
 use Rattle.vc_accepted.specs.Begin.{node_plan, begin_of}
 use Rattle.vc_accepted.specs.NetworkOf.{network_of}
+use Rattle.vc_accepted.specs.OneList.{FollowsEvents}
+use Rattle.vc_free.specs.Together.{KeepsOrder}
 use Rattle.vc_accepted.specs.Process.{Process, does}
 use Rattle.vc_switch.specs.Waiting.{Waiting}
 use Rattle.vc_tokens.specs.Tokens.{Token}
@@ -26,12 +29,16 @@ pub record IsOtherPlacement (p q : Plan) : Type 0 where
   pub nodes : length p.nodes ≡ length q.nodes
   pub channels : length p.channels ≡ length q.channels
 
--- events of q's network, from its opening, to a state in which each channel shows what was completed on p's network in s, and all
--- processes have ended where all of p's have
-pub record RunsToo (p q : Plan) (waiting : Waiting) (s : Network (Actor Process) Token) : Type 0 where
+-- What p's network did by these events has a linearization, by a list that follows the events. Events of q's network, from its opening, do
+-- that in its order, and lead to a state in which each channel shows what was completed on p's network in s. There all processes have
+-- ended if all of p's have.
+pub record RunsToo (p q : Plan) (rule other : Waiting) (es : List (ActBy Act)) (s : Network (Actor Process) Token) : Type 0 where
+  pub did : Linearizes p s
+  pub follows : FollowsEvents p rule es s did.list
   pub events : List (ActBy Act)
   pub end : Network (Actor Process) Token
-  pub happen : HappenAll (network_of q) waiting does (begins (network_of q) (begin_of q)) events end
+  pub happen : HappenAll (network_of q) other does (begins (network_of q) (begin_of q)) events end
+  pub order : KeepsOrder q other did.atomics events
   pub on_channel : (c : ℕ) → c < length p.channels → view (network_of q) end c ≡ completed (view (network_of p) s c)
   pub ended : HaveEnded p s → HaveEnded q end
 
@@ -39,4 +46,4 @@ pub record RunsToo (p q : Plan) (waiting : Waiting) (s : Network (Actor Process)
 abbrev pub FreePlacementsDoTheSame : Type 0
 FreePlacementsDoTheSame =
     (p q : Plan) (rule other : Waiting) (es : List (ActBy Act)) (s : Network (Actor Process) Token) → IsAccepted p → IsAccepted q → HasRanks q → IsOtherPlacement p q
-    → HappenAll (network_of p) rule does (begins (network_of p) (begin_of p)) es s → RunsToo p q other s
+    → HappenAll (network_of p) rule does (begins (network_of p) (begin_of p)) es s → RunsToo p q rule other es s

@@ -21,23 +21,25 @@ pub fn a_free_network_delivers()
     ensures { FreeNetworksDeliver }
 {}
 
-/// Whatever the processes of an accepted plan may do together, as on one transputer, its network does under either waiting rule, if its
-/// ports have ranks: there are events from its opening state on, to a state in which each channel shows what was done on it and each
-/// process has ended where its trace has.
+/// Whatever the processes of an accepted plan may do together, as on one transputer, its network does in the same order under either
+/// waiting rule, if its ports have ranks. There are events from its opening state on, to a state in which each channel shows what was
+/// done on it and each process has ended if its trace has. For each prefix of what the processes do, some prefix of the events leads to
+/// a state in which each channel shows that prefix.
 pub fn a_free_network_does_all()
     ensures { FreeNetworksDoAll }
 {}
 
 /// The converse of `one_node_runs_it` (vc_placement): whatever the plan of one node does, where it is accepted too, the plan's network
-/// runs, if its ports have ranks: there are events from its opening state on, to a state in which each channel shows the same, and all
-/// processes have ended where the one node's process has. So on a free network placement is invisible both ways.
+/// runs in the same order, if its ports have ranks: there are events from its opening state on, by which messages are got and channels
+/// stopped in the order of the one node's events, to a state in which each channel shows the same, and all processes have ended if the
+/// one node's process has. So on a free network placement is invisible both ways.
 pub fn the_network_runs_it()
     ensures { NetworkRunsIt }
 {}
 
 /// Of two placements of one program, with other wires, switches, labels, homes of channels and waiting rules: what the network of the
-/// one did, that of the other runs, if its ports have ranks. Each channel shows what was completed, and all processes have ended where
-/// all had.
+/// one did, that of the other runs, in the order of a linearization of it, if its ports have ranks. Each channel shows what was
+/// completed, and all processes have ended if all had.
 pub fn free_placements_do_the_same()
     ensures { FreePlacementsDoTheSame }
 {}

@@ -1,5 +1,5 @@
 -- Neighbouring steps of a process that may change places.
-use Rattle.std.specs.Prelude.{◌≡◌, ℕ, List, [], ◌∷◌, Option, Some, None}
+use Rattle.std.specs.Prelude.{◌≡◌, ℕ, List, [], ◌∷◌, Some, None}
 use Rattle.vc_occam.specs.SiteActions.{SiteAction, Quiet, Offer, Finish, Want, Choose, Message, StopChannel}
 use Rattle.vc_occam.specs.Remains.{Rest, Step, KeepsVariablesApart}
 use Rattle.vc_occam.specs.Traces.{Comm, Fin}
