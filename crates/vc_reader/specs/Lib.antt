@@ -1,3 +1,4 @@
+pub mod Bare
 pub mod Bytes
 pub mod Conditions
 pub mod Expressions

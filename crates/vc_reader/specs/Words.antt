@@ -1,7 +1,7 @@
 -- The words of the network file's format, as they stand in the file.
 use Rattle.std.specs.Prelude.{ℕ, List, codes}
 use Rattle.vc_reader.specs.declared.word.Word.{Word}
-use Rattle.vc_reader.specs.declared.word.Word.TheVariants.{Version, Nodes, Switches, Wires, Vlinks, Channels, Name, Vars, Process, Table, Delete, Random, A, B, Kind, Vlink, Way, Node, Set, Out, In, Stopch, Seq, Par, If, While, For, Alt, Hex, Text, Fill}
+use Rattle.vc_reader.specs.declared.word.Word.TheVariants.{Version, Nodes, Switches, Wires, Vlinks, Channels, Name, Vars, Process, Table, Delete, Random, A, B, Kind, Vlink, Way, Node, From, To, Set, Out, In, Stopch, Seq, Par, If, While, For, Alt, Hex, Text, Fill}
 
 abbrev pub word_text : Word → List ℕ
 word_text Version = codes "version"
@@ -22,6 +22,8 @@ word_text Kind = codes "kind"
 word_text Vlink = codes "vlink"
 word_text Way = codes "way"
 word_text Node = codes "node"
+word_text From = codes "from"
+word_text To = codes "to"
 word_text Set = codes "set"
 word_text Out = codes "out"
 word_text In = codes "in"

@@ -32,7 +32,7 @@ use vc_plan::{Channel, NodePlan, Plan, SwitchPlan, Wire};
 use vc_process::Process;
 
 #[derive(Drop)]
-struct Version;
+pub(crate) struct Version;
 
 impl Reader for Version {
     type Out = u8;
@@ -46,7 +46,7 @@ impl Reader for Version {
 
 /// All nodes, but for their processes.
 #[derive(Drop)]
-struct Heads;
+pub(crate) struct Heads;
 
 impl Reader for Heads {
     type Out = Register<Head>;
@@ -231,7 +231,7 @@ fn plan(alloc: Global, value: &Value) -> Result<Plan, Stop>
 }
 
 /// The JSON value of a text.
-fn parse(alloc: Global, text: &[u8]) -> Result<Value, ReadRefused>
+pub(crate) fn parse(alloc: Global, text: &[u8]) -> Result<Value, ReadRefused>
     ensures ok { IfOk result (λ v. IsUtf8 text.now × (read text.now ≡ Some (view v))) }
     ensures err { IfErr result
         (λ e. (e ≡ OutOfMemory) ⊎ ((e ≡ Json) × (IsUtf8 text.now → read text.now ≡ None))) }

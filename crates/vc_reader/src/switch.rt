@@ -114,9 +114,9 @@ fn place_name(
 
 /// A name that no node and no switch has.
 #[derive(Drop)]
-struct NewPlace<'a> {
-    nodes: &'a Register<Head>,
-    switches: &'a Register<SwitchPlan>,
+pub(crate) struct NewPlace<'a> {
+    pub nodes: &'a Register<Head>,
+    pub switches: &'a Register<SwitchPlan>,
 }
 
 impl Reader for NewPlace<'_> {

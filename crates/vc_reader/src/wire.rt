@@ -41,9 +41,9 @@ fn place(
 
 /// A node or a switch, by its name.
 #[derive(Drop)]
-struct PlaceReader<'a> {
-    nodes: &'a Register<Head>,
-    switches: &'a Register<SwitchPlan>,
+pub(crate) struct PlaceReader<'a> {
+    pub nodes: &'a Register<Head>,
+    pub switches: &'a Register<SwitchPlan>,
 }
 
 impl Reader for PlaceReader<'_> {

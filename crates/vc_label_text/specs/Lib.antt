@@ -1,0 +1,3 @@
+pub mod CauseText
+pub mod Labelled
+pub mod Private
