@@ -2,9 +2,9 @@
 """Refuses each allocation in turn, of the program and of the tests of memory: bench/memory.py.
 
 It builds `vcnet`, and the tests of vc_network_tests and vc_tests, without their proofs and side by side. Then it sweeps some networks as
-bench/allocations.py does, and each test whose name has `memory` as bench/memory_tests.py does. .ci/run runs it where there is a C
-compiler: there `fault memory`, `end memory` and status 4 are printed each time. It fails if a run is neither whole nor refused. If a
-program cannot be built without its proofs, it says so and sweeps nothing: the gate then judges the code.
+bench/allocations.py does, and each test whose name has `memory` as bench/memory_tests.py does, and holds the corners of bench/corners.py.
+.ci/run runs it where there is a C compiler: there `fault memory`, `end memory` and status 4 are printed each time. It fails if a run is
+neither whole nor refused. If a program cannot be built without its proofs, it says so and sweeps nothing: the gate then judges the code.
 
 Made with rattle-kit-13f, logic dac8208d650f15bf.
 """
@@ -16,6 +16,7 @@ import tempfile
 import time
 
 import allocations
+import corners
 import memory_tests
 import peak
 import unproved
@@ -49,14 +50,14 @@ def main():
             print(f"no sweeps of refused allocations, since nothing was built: {why}")
             return
         shim = peak.compiled(allocations.SHIM, "shim.so", "-shared", "-fPIC")
-        jobs = []
+        jobs = [(corners.hold, str(vcnet))]
         for network in NETWORKS:
             jobs += allocations.jobs(str(vcnet), allocations.ROOT / "examples" / network, shim, folder)
         for program in tests:
             jobs += [(memory_tests.sweep, program, test, shim, folder) for test in memory_tests.names(program)]
         for _ in pool.map(sweep, jobs):
             pass
-    print(f"{len(jobs)} sweeps of refused allocations, 0 faults, {time.time() - began:.0f} seconds")
+    print(f"{len(jobs) - 1} sweeps of refused allocations, 0 faults, {time.time() - began:.0f} seconds")
 
 
 if __name__ == "__main__":

@@ -12,7 +12,7 @@ use std::rt::Files;
 use std::sync::Wait;
 use std::thread::Threads;
 use std::{fs, io};
-use vc_words::run_words;
+use vc_words::{EventFiles, Meter, run_words};
 
 /// The file that names the examples.
 const INDEX: &str = "index.txt";
@@ -53,7 +53,7 @@ fn example_of(alloc: Global, line: &str) -> Result<Option<Example<'_>>, AllocErr
 }
 
 /// Whether the example's words write what its file has, and end with its status.
-fn holds<R: Files + Alloc + Threads + Wait + Sync>(
+fn holds<R: EventFiles + Files + Alloc + Threads + Wait + Sync>(
     rt: &R,
     alloc: Global,
     example: &Example<'_>,
@@ -62,7 +62,7 @@ fn holds<R: Files + Alloc + Threads + Wait + Sync>(
     let mut reader = network.as_slice();
     let mut written = Vec::new(alloc);
     let words = example.words.as_slice();
-    let status = run_words(rt, alloc, words, &mut reader, &mut written);
+    let status = run_words(rt, alloc, words, &mut reader, &mut written, &Meter::new());
     let is_as_wanted = if example.output == NOT_COMPARED {
         !written.is_empty()
     } else {

@@ -7,11 +7,12 @@ use Rattle.vc_occam.specs.declared.moves.Move.{Move}
 use Rattle.vc_switch.specs.State.{State as SwitchState}
 use Rattle.vc_actor.specs.Able.{NodeCan, SwitchCan, CanMove}
 use Rattle.vc_actor.specs.ActorView.{Acting, OfNode, OfSwitch}
-use Rattle.vc_actor.specs.Turns.{IsTurn, FindsTurn, kind_of, FindsOf, TakesNone, MakesTurn}
+use Rattle.vc_actor.specs.Turns.{IsTurn, FindsTurn, TakesNone, MakesTurn}
+use Rattle.vc_actor.specs.Private.Kinds.{kind_of, FindsOf}
 use Rattle.vc_actor.specs.Private.Turns.{FindsAt, FindsRoute, FindsMove, IsTold}
 use Rattle.vc_actor.specs.declared.act.Act.{Act}
 use Rattle.vc_actor.specs.declared.act.Act.TheVariants as act
-use Rattle.vc_actor.specs.declared.act.ActKind.TheVariants as kind
+use Rattle.vc_actor.specs.Private.Kinds as kind
 use Rattle.vc_actor.specs.declared.node.Node.{Node}
 use Rattle.vc_actor.specs.declared.turn.Turn.{Turn}
 use Rattle.vc_actor.specs.declared.turn.Turn.TheVariants as turn

@@ -11,8 +11,6 @@ use Rattle.vc_actor.specs.Acts.{MakesOwn, MakesPut, MakesGrant}
 use Rattle.vc_actor.specs.ActorView.{Acting}
 use Rattle.vc_actor.specs.declared.act.Act.{Act}
 use Rattle.vc_actor.specs.declared.act.Act.TheVariants.{Proc, Take, Put, Route, Fct, Pass}
-use Rattle.vc_actor.specs.declared.act.ActKind.{ActKind}
-use Rattle.vc_actor.specs.declared.act.ActKind.TheVariants as kind
 use Rattle.vc_actor.specs.declared.turn.Turn.{Turn}
 use Rattle.vc_actor.specs.declared.turn.Turn.TheVariants as turn
 
@@ -34,20 +32,6 @@ pub record IsTurn (plan : Plan) (k : ℕ) (x : Acting) (room : ℕ) (a : Act) : 
 abbrev pub FindsTurn : Plan → ℕ → Acting → ℕ → Option Act → Type 0
 FindsTurn plan k x room None = (a : Act) → IsTurn plan k x room a → ⊥
 FindsTurn plan k x room (Some a) = IsTurn plan k x room a
-
--- the kind of an act; none of a take
-abbrev pub kind_of : Act → Option ActKind
-kind_of (Pass link) = Some kind.Pass
-kind_of (Route input output) = Some kind.Route
-kind_of (Put link) = Some kind.Put
-kind_of (Fct link) = Some kind.Fct
-kind_of (Proc made) = Some kind.Proc
-kind_of (Take link word) = None
-
--- an act of this kind for the actor's turn, or none where it has none
-abbrev pub FindsOf : ActKind → Plan → ℕ → Acting → ℕ → Option Act → Type 0
-FindsOf kind plan k x room None = (a : Act) → kind_of a ≡ Some kind → IsTurn plan k x room a → ⊥
-FindsOf kind plan k x room (Some a) = IsTurn plan k x room a × (kind_of a ≡ Some kind)
 
 -- the act takes no token
 abbrev pub TakesNone : Act → Type 0

@@ -36,18 +36,3 @@ pub enum Act {
         link: u8,
     },
 }
-
-/// The kinds of acts among which an actor looks for its turn: all but a take.
-#[derive(Clone, Copy, Debug, PartialEq, Eq, Drop)]
-pub enum ActKind {
-    /// A token passes on.
-    Pass,
-    /// A packet is bound to an output.
-    Route,
-    /// A token is put.
-    Put,
-    /// A flow control token is put.
-    Fct,
-    /// A move of a process.
-    Proc,
-}

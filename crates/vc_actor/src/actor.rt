@@ -7,12 +7,12 @@ ghost use Rattle.vc_actor.specs.OfPlan.{IsActorOf};
 ghost use Rattle.vc_actor.specs.Parts.{HasEnded, node_in, switch_in, strays_of, lost_of, faults_of};
 ghost use Rattle.vc_actor.specs.ActorView.{OfNode, OfSwitch};
 ghost use Rattle.vc_actor.specs.StepsInARow.{MakesSteps};
-ghost use Rattle.vc_actor.specs.Turns.{FindsOf, FindsTurn, MakesTurn, PutsWithRoom, RoomLets};
+ghost use Rattle.vc_actor.specs.Turns.{FindsTurn, MakesTurn, PutsWithRoom, RoomLets};
 ghost use Rattle.vc_actor.specs.Private.Turns.{IsTold};
 ghost use Rattle.vc_network.specs.Plan.{Plan};
 ghost use Rattle.vc_tokens.specs.CodeTokens.{token};
 
-use crate::act::{Act, ActKind};
+use crate::act::Act;
 use crate::node::Node;
 use crate::node_actor::NodeActor;
 use crate::switch_actor::SwitchActor;
@@ -319,22 +319,6 @@ impl Actor {
         match &mut self.part {
             Part::Node(node) => node.next(room),
             Part::Switch(switch) => Ok(switch.next(room)),
-        }
-    }
-
-    /// An act of this kind that the actor can make where its links have this room.
-    #[inline(always)]
-    pub fn next_of(&mut self, kind: ActKind, room: u32) -> Result<Option<Act>, Memory>
-        ensures same { self.new ≡ self.old }
-        ensures may { IfOk result (λ act. IfSome act (λ a. MayAct self.old a)) }
-        ensures lets { IfOk result (λ act. IfSome act (RoomLets room)) }
-        ensures finds { (plan : Plan) (k : ℕ) →
-            IsActorOf plan k self.old →
-            IfOk result (FindsOf kind plan k self.old room) }
-    {
-        match &mut self.part {
-            Part::Node(node) => node.next_of(kind, room),
-            Part::Switch(switch) => Ok(switch.next_of(kind, room)),
         }
     }
 

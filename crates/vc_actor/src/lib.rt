@@ -17,7 +17,7 @@ mod room;
 mod switch_actor;
 mod turn;
 
-pub use act::{Act, ActKind};
+pub use act::Act;
 pub use actor::Actor;
 pub use node::Node;
 pub use plan_actors::actors;

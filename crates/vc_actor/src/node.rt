@@ -331,6 +331,14 @@ impl Node {
         self.process.ended()
     }
 
+    /// Lists the moves that the process can begin with, in order of site and then of guard, whether or not their channels are ready. An
+    /// output that meets an input has the place of the output's site. The call fails only when out of memory.
+    pub fn moves(&self) -> Result<Items<Move>, Memory>
+        ensures { IfOk result (λ found. found ≡ moves_of self.now.process) }
+    {
+        self.process.actions()
+    }
+
     /// What the parts of the process are at that do not go on by themselves, in order of site.
     pub fn blocked(&self) -> Result<Items<Blocked>, Memory>
         ensures { IfOk result (λ found.

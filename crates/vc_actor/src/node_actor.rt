@@ -6,7 +6,7 @@ ghost use Rattle.vc_actor.specs.OfPlan.{IsNodeOf, IsActorOf};
 ghost use Rattle.vc_actor.specs.ActorView.{OfNode};
 ghost use Rattle.vc_actor.specs.Private.Turns.{FindsMove, NeedsNoRoom};
 ghost use Rattle.vc_actor.specs.StepsInARow.{MakesSteps};
-ghost use Rattle.vc_actor.specs.Turns.{FindsOf, FindsTurn, RoomLets};
+ghost use Rattle.vc_actor.specs.Turns.{FindsTurn, RoomLets};
 ghost use Rattle.vc_occam.specs.MoveSites.{without};
 ghost use Rattle.vc_occam.specs.Remains.{Done};
 ghost use Rattle.vc_occam.specs.Runnings.{inner_channels, moves as moves_of, state};
@@ -14,7 +14,7 @@ ghost use Rattle.vc_vcp.specs.VcpView.{seen};
 ghost use Rattle.vc_network.specs.Plan.{Plan};
 ghost use Rattle.vc_tokens.specs.CodeTokens.{token};
 
-use crate::act::{Act, ActKind};
+use crate::act::Act;
 use crate::node::{NODE_LINKS, Node, site_of};
 use sqlite_items::Items;
 use std::marker::Model;
@@ -209,26 +209,6 @@ impl NodeActor {
             MakesGrant plan k (OfNode self.old) link (OfNode self.new) }
     {
         self.node.vcp.grant(link);
-    }
-
-    /// An act of this kind that the node can make where its links have this room: by the least link, or a move of the process,
-    /// beginning behind the site that acted last.
-    #[inline(always)]
-    pub(crate) fn next_of(&mut self, kind: ActKind, room: u32) -> Result<Option<Act>, Memory>
-        ensures same { self.new ≡ self.old }
-        ensures may { IfOk result (λ act. IfSome act (λ a. NodeMay self.old a)) }
-        ensures lets { IfOk result (λ act. IfSome act (RoomLets room)) }
-        ensures finds { (plan : Plan) (k : ℕ) →
-            IsNodeOf plan k self.old →
-            IfOk result (FindsOf kind plan k (OfNode self.old) room) }
-    {
-        match kind {
-            ActKind::Pass => Ok(self.node.next_pass()),
-            ActKind::Route => Ok(None),
-            ActKind::Put => Ok(self.node.next_put(room)),
-            ActKind::Fct => Ok(self.node.next_grant(room)),
-            ActKind::Proc => self.next_move(),
-        }
     }
 
     /// What the node does next where its links have this room: by the least link, or a move of the process, beginning behind the

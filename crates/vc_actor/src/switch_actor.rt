@@ -4,13 +4,13 @@ ghost use Rattle.vc_actor.specs.Acts.{SwitchMay, MakesOwn, MakesTake, MakesPut, 
 ghost use Rattle.vc_actor.specs.Able.{SwitchCan};
 ghost use Rattle.vc_actor.specs.OfPlan.{IsActorOf};
 ghost use Rattle.vc_actor.specs.ActorView.{OfSwitch};
-ghost use Rattle.vc_actor.specs.Turns.{IsTurn, FindsOf, FindsTurn, RoomLets};
+ghost use Rattle.vc_actor.specs.Turns.{IsTurn, FindsTurn, RoomLets};
 ghost use Rattle.vc_actor.specs.Private.Turns.{FindsAt, FindsRoute, NeedsNoRoom};
 ghost use Rattle.vc_network.specs.Plan.{Plan};
 ghost use Rattle.vc_switch.specs.SwitchView.{seen};
 ghost use Rattle.vc_tokens.specs.CodeTokens.{token};
 
-use crate::act::{Act, ActKind};
+use crate::act::Act;
 use crate::room::without;
 use vc_switch::{ReadySwitch, Switch, lowest};
 use vc_tokens::Token;
@@ -109,24 +109,6 @@ impl SwitchActor {
             MakesGrant plan k (OfSwitch self.old.switch) link (OfSwitch self.new.switch) }
     {
         self.switch.grant(link);
-    }
-
-    /// An act of this kind that the switch can make where its links have this room: by the least link, or to bind the packet of
-    /// the least input to the least output.
-    #[inline(always)]
-    pub(crate) fn next_of(&self, kind: ActKind, room: u32) -> Option<Act>
-        ensures may { IfSome result (λ a. SwitchMay self.now.switch a) }
-        ensures lets { IfSome result (RoomLets room) }
-        ensures finds { (plan : Plan) (k : ℕ) →
-            FindsOf kind plan k (OfSwitch self.now.switch) room result }
-    {
-        match kind {
-            ActKind::Pass => self.next_pass(),
-            ActKind::Route => self.next_route(),
-            ActKind::Put => self.next_put(room),
-            ActKind::Fct => self.next_grant(room),
-            ActKind::Proc => None,
-        }
     }
 
     /// What the switch does next where its links have this room: by the least link, or it binds the packet of the least input to the

@@ -19,6 +19,7 @@ pub mod Takes
 pub mod WaysOut
 pub mod Awake
 pub mod Bits
+pub mod ListedActs
 pub mod LineBits
 pub mod ByEnd
 pub mod TokensOnWays

@@ -20,13 +20,12 @@ use Rattle.vc_accepted.specs.Process.{Process}
 use Rattle.vc_core.specs.Replay.{Replays}
 use Rattle.vc_actor.specs.ActorView.{Acting, OfNode, OfSwitch, node_of}
 use Rattle.vc_core.specs.State.{State, shown, IsNetworkOf, HasFront, HasWay, WaysLet}
-use Rattle.vc_actor.specs.Turns.{RoomLets, IsTurn, FindsTurn, kind_of, FindsOf, TakesNone, actors}
-use Rattle.vc_core.specs.Turns.{FindsEvent, FindsEventOf, FindsFront, FindsTake, AllHaveEnded}
+use Rattle.vc_actor.specs.Turns.{RoomLets, IsTurn, FindsTurn, TakesNone, actors}
+use Rattle.vc_core.specs.Turns.{FindsEvent, FindsFront, FindsTake, AllHaveEnded}
 use Rattle.vc_core.specs.Private.Turns.{Rests, IsAtRest}
 use Rattle.vc_core.specs.Wiring.{out_at, there}
 use Rattle.vc_actor.specs.declared.act.Act.{Act}
 use Rattle.vc_actor.specs.declared.act.Act.TheVariants as act
-use Rattle.vc_actor.specs.declared.act.ActKind.{ActKind}
 use Rattle.vc_core.specs.declared.event.Event.{Event}
 use Rattle.vc_actor.specs.declared.node.Node.{Node}
 use Rattle.vc_core.proofs.Events.{state_at}
@@ -93,23 +92,12 @@ module _ (p : Plan) (s : State) (k room : ℕ) (bits : (link : ℕ) → link < 3
       let act = has_act p s (event b) a is here can in
       none b (record { can = act; lets = lets_by s k room bits b takes (has_ways p s (event b) a is here can) })
 
-  -- of one kind
-
-  takes_of : (z : ActKind) (b : Act) → kind_of b ≡ Some z → TakesNone b
-  takes_of z (act.Take l w) e = absurd (cc)
-  takes_of z a e = tt
-
-  pub no_event_of : (z : ActKind) (a : Acting) → slice_get s.actors k ≡ Some a → FindsOf z (network_of p) k a room None → FindsEventOf z p s k None
-  no_event_of z a here none b e can =
-      let act = has_act p s (event b) a is here can in
-      none b e (record { can = act; lets = lets_by s k room bits b (takes_of z b e) (has_ways p s (event b) a is here can) })
-
 pub no_actor : (p : Plan) (s : State) (k : ℕ) → IsNetworkOf p s → slice_get s.actors k ≡ None → FindsEvent p s k None
 no_actor p s k is none b takes can = has_actor p s (record { actor = k; act = b }) is can none
 
 -- A token that comes.
 
-front_of : (p : Plan) (s : State) (k l w : ℕ) → IsNetworkOf p s → CanHappen p s (record { actor = k; act = act.Take l w }) → HasFront s k l
+pub front_of : (p : Plan) (s : State) (k l w : ℕ) → IsNetworkOf p s → CanHappen p s (record { actor = k; act = act.Take l w }) → HasFront s k l
 front_of p s k l w is can = by_place (slice_get s.actors k) refl
   where
     by_place : (o : Option Acting) → slice_get s.actors k ≡ o → HasFront s k l

@@ -1,6 +1,7 @@
 pub mod Awake
 pub mod BlockedParts
 pub mod Channels
+pub mod Choices
 pub mod Fronts
 pub mod Lines
 pub mod Links

@@ -1,6 +1,7 @@
 -- What only private functions, invariants and proofs cite.
 pub mod ByEnd
 pub mod Channels
+pub mod Choices
 pub mod Fronts
 pub mod Lines
 pub mod OutgoingTable

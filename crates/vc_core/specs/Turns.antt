@@ -3,10 +3,9 @@ use Rattle.std.specs.Prelude.{◌≡◌, ℕ, ◌<◌, Option, Some, None}
 use Rattle.vc_plan.specs.declared.plan.Plan.{Plan as Given}
 use Rattle.vc_core.specs.PossibleEvents.{NetworkState, CanHappenIn, CanHappen}
 use Rattle.vc_core.specs.State.{State, shown, HasFront}
-use Rattle.vc_actor.specs.Turns.{kind_of, TakesNone, actors}
+use Rattle.vc_actor.specs.Turns.{TakesNone, actors}
 use Rattle.vc_actor.specs.declared.act.Act.{Act}
 use Rattle.vc_actor.specs.declared.act.Act.TheVariants.{Take}
-use Rattle.vc_actor.specs.declared.act.ActKind.{ActKind}
 use Rattle.vc_core.specs.declared.event.Event.{Event}
 use Rattle.vc_placement.specs.OneNode.{HaveEnded}
 
@@ -14,11 +13,6 @@ use Rattle.vc_placement.specs.OneNode.{HaveEnded}
 abbrev pub FindsEvent : Given → State → ℕ → Option Event → Type 0
 FindsEvent p s k None = (a : Act) → TakesNone a → CanHappen p s (record { actor = k; act = a }) → ⊥
 FindsEvent p s k (Some e) = (e.actor ≡ k) × TakesNone e.act × CanHappen p s e
-
--- an event of actor k of this kind, or none where none can happen
-abbrev pub FindsEventOf : ActKind → Given → State → ℕ → Option Event → Type 0
-FindsEventOf kind p s k None = (a : Act) → kind_of a ≡ Some kind → CanHappen p s (record { actor = k; act = a }) → ⊥
-FindsEventOf kind p s k (Some e) = (e.actor ≡ k) × TakesNone e.act × CanHappen p s e × (kind_of e.act ≡ Some kind)
 
 -- the least link of actor k by which a token comes, or none where none does
 abbrev pub FindsFront : State → ℕ → Option ℕ → Type 0

@@ -8,6 +8,7 @@
 #![tactic(auto)]
 
 mod channels;
+mod choices;
 mod close;
 mod ends;
 mod event;
@@ -39,4 +40,4 @@ pub use outgoing_ways::actor_of;
 pub use place::Place;
 pub use refused::{ReplayRefused, StepRefused};
 pub use replays::replay;
-pub use vc_actor::{Act, ActKind, Actor, Turn, actors};
+pub use vc_actor::{Act, Actor, Turn, actors};

@@ -10,7 +10,7 @@ ghost use Rattle.vc_actor.specs.Private.Parts.{IsDone};
 ghost use Rattle.vc_actor.specs.OfPlan.{IsActorOf};
 ghost use Rattle.vc_actor.specs.ActorView.{Acting};
 ghost use Rattle.vc_actor.specs.Turns.{TakesNone, actors};
-ghost use Rattle.vc_core.specs.Turns.{FindsFront, FindsTake, FindsEvent, FindsEventOf, AllHaveEnded};
+ghost use Rattle.vc_core.specs.Turns.{FindsFront, FindsTake, FindsEvent, AllHaveEnded};
 ghost use Rattle.vc_core.specs.Awake.{StaysAwake};
 ghost use Rattle.vc_core.specs.StepsInARow.{MakesSteps};
 ghost use Rattle.vc_core.specs.State.{state_of, IsNetworkOf, MayHappen, WaysLet, HasFront, HasWay, MakesEvent, MakesOne, MayActAt};
@@ -23,7 +23,7 @@ use crate::lines::Lines;
 use crate::refused::StepRefused;
 use sqlite_items::{Items, at};
 use std::alloc::Global;
-use vc_actor::{Act, ActKind, Actor, actors, has_room};
+use vc_actor::{Act, Actor, actors, has_room};
 use vc_packets::Memory;
 use vc_plan::{Accepted, Wire};
 use vc_switch::lowest;
@@ -363,53 +363,6 @@ impl Network {
         }
         let room = self.lines.room(actor);
         self.actors[place].make_steps(room, most)
-    }
-
-    /// An actor makes an event of this kind, if it has one where every way has room. Whoever chooses the kinds makes events in an order of
-    /// their own. In the mask `awake` the actor to which a token goes has its bit from now on. It fails for want of memory alone, and the
-    /// network and the mask are then as they were.
-    pub fn turn_by(
-        &mut self,
-        actor: u8,
-        kind: ActKind,
-        awake: &mut u64,
-    ) -> Result<Option<Event>, Memory>
-        ensures finds { (p : Plan) → IsNetworkOf p (state_of self.old) →
-            IfOk result (FindsEventOf kind p (state_of self.old) actor) }
-        ensures makes { (p : Plan) → IsNetworkOf p (state_of self.old) →
-            IfOk result (λ made. MakesOne p (state_of self.old) made (state_of self.new)) }
-        ensures awake { OnOk result
-            (StaysAwake (state_of self.old) awake.old (state_of self.new) awake.new) }
-        ensures refused { OnErr result (state_of self.new ≡ state_of self.old) }
-        ensures none_wakes { OnErr result (awake.new ≡ awake.old) }
-    {
-        let Some(event) = self.next_of(actor, kind)? else {
-            return Ok(None);
-        };
-        self.make(&event, awake)?;
-        Ok(Some(event))
-    }
-
-    // An event of this kind that an actor can make where every way has room; nothing where it has none.
-    fn next_of(&mut self, actor: u8, kind: ActKind) -> Result<Option<Event>, Memory>
-        ensures same { state_of self.new ≡ state_of self.old }
-        ensures may { IfOk result
-            (λ found. IfSome found (λ e. MayActAt (state_of self.old) e.actor e.act)) }
-        ensures lets { IfOk result
-            (λ found. IfSome found (λ e. WaysLet (state_of self.old) e.actor e.act)) }
-        ensures finds { (p : Plan) →
-            IsNetworkOf p (state_of self.old) →
-            IfOk result (FindsEventOf kind p (state_of self.old) actor) }
-    {
-        let place = usize::from(actor);
-        if place >= self.actors.len() {
-            return Ok(None);
-        }
-        let room = self.lines.room(actor);
-        match self.actors[place].next_of(kind, room)? {
-            Some(act) => Ok(Some(Event { actor, act })),
-            None => Ok(None),
-        }
     }
 
     /// Whether every process has ended.

@@ -16,7 +16,7 @@ use std::io::{Read, Write};
 use vc_core::{Close, Network};
 use vc_packets::Memory;
 use vc_plan::{Accepted, Plan};
-use vc_text::{RunFault, Schedule, read_accepted, run_unlogged, write_text};
+use vc_text::{Meter, RunFault, Schedule, read_accepted, run_unlogged, write_text};
 
 fn write_graph<W: Write>(alloc: Global, plan: &Plan, writer: &mut W) -> Result<(), RunFault>
     ensures { Writes (W.contents writer.old) (W.contents writer.new)
@@ -55,11 +55,12 @@ fn draw_after<W: Write>(
     accepted: &Accepted,
     writer: &mut W,
     limit: u64,
+    meter: &Meter,
 ) -> Result<Close, RunFault>
     ensures { WritesRun IsStateDrawing accepted.now
-        (W.contents writer.old) (W.contents writer.new) limit result }
+        (W.contents writer.old) (W.contents writer.new) Schedule.InTurn limit result }
 {
-    let (network, close) = run_unlogged(alloc, accepted, limit, Schedule::InTurn)?;
+    let (network, close) = run_unlogged(alloc, accepted, limit, Schedule::InTurn, meter)?;
     let text = state_graph(alloc, accepted.plan(), &network)?;
     match write_text(writer, text.as_slice()) {
         Ok(()) => Ok(close),
@@ -75,10 +76,11 @@ pub fn run_draw_after<R: Read, W: Write>(
     reader: &mut R,
     writer: &mut W,
     limit: u64,
+    meter: &Meter,
 ) -> Result<Close, RunFault>
     ensures { WritesRunBy IsStateDrawing (ReadsAccepted (R.remaining reader.old))
-        (W.contents writer.old) (W.contents writer.new) limit result }
+        (W.contents writer.old) (W.contents writer.new) Schedule.InTurn limit result }
 {
     let accepted = read_accepted(alloc, reader)?;
-    draw_after(alloc, &accepted, writer, limit)
+    draw_after(alloc, &accepted, writer, limit, meter)
 }

@@ -50,7 +50,7 @@ fn push_summary(out: &mut Vec<u8>, plan: &Plan) -> Result<(), Memory>
     Ok(())
 }
 
-/// Whether packets can come to wait for one another in a circle.
+/// That no dependencies form a cycle, or one along which packets might wait for one another.
 fn push_deadlock(
     alloc: Global,
     out: &mut Vec<u8>,

@@ -1,5 +1,7 @@
 -- What only private functions, invariants and proofs cite.
 pub mod Buffers
+pub mod Json
 pub mod Packets
 pub mod Peaks
+pub mod Told
 pub mod Times

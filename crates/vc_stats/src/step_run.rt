@@ -5,24 +5,26 @@ ghost use Rattle.vc_stats.specs.Texts.{IsStatsText, IsTrafficJson};
 
 use crate::form::Form;
 use crate::monitor::Monitor;
-use crate::text::{stats_text, traffic_text};
+use crate::text::{stats_tail, traffic_tail, write_told};
 use std::alloc::Global;
 use std::io::{Read, Write};
 use vc_core::Close;
 use vc_plan::Accepted;
-use vc_text::{RunFault, StepOptions, read_as, run_into, run_unlogged, write_text};
+use vc_text::{RunFault, StepOptions, read_as, run_into, run_unlogged};
+use vc_threads::Meter;
 
-/// Runs an accepted network event by event, and writes its traffic and its counts. The text is made first, so want of memory writes
-/// nothing.
+/// Runs an accepted network event by event, and writes its traffic and its counts. All memory is taken first, so running out of
+/// it writes nothing.
 fn stats_plan<W: Write>(
     alloc: Global,
     accepted: &Accepted,
     writer: &mut W,
     form: Form,
     options: StepOptions,
+    meter: &Meter,
 ) -> Result<Close, RunFault>
     ensures { WritesRun (IsStatsText form options.is_why) accepted.now
-        (W.contents writer.old) (W.contents writer.new) options.limit result }
+        (W.contents writer.old) (W.contents writer.new) options.schedule options.limit result }
 {
     let plan = accepted.plan();
     let mut monitor = Monitor::new(alloc, plan)?;
@@ -32,9 +34,10 @@ fn stats_plan<W: Write>(
         &mut monitor,
         options.limit,
         options.schedule,
+        meter,
     )?;
     let states = monitor.states(alloc, plan)?;
-    let text = stats_text(
+    let tail = stats_tail(
         alloc,
         plan,
         &network,
@@ -44,7 +47,7 @@ fn stats_plan<W: Write>(
         form,
         options.is_why,
     )?;
-    write_text(writer, text.as_slice())?;
+    write_told(form, &tail, writer)?;
     Ok(close)
 }
 
@@ -58,13 +61,14 @@ pub fn stats_step<R: Read, W: Write>(
     writer: &mut W,
     form: Form,
     options: StepOptions,
+    meter: &Meter,
 ) -> Result<Close, RunFault>
     ensures { WritesRunBy (IsStatsText form options.is_why)
         (ReadsAs options.is_together (R.remaining reader.old))
-        (W.contents writer.old) (W.contents writer.new) options.limit result }
+        (W.contents writer.old) (W.contents writer.new) options.schedule options.limit result }
 {
     let accepted = read_as(alloc, reader, options.is_together)?;
-    stats_plan(alloc, &accepted, writer, form, options)
+    stats_plan(alloc, &accepted, writer, form, options, meter)
 }
 
 /// Runs an accepted network event by event, and writes its traffic as JSON.
@@ -73,13 +77,14 @@ fn json_plan<W: Write>(
     accepted: &Accepted,
     writer: &mut W,
     options: StepOptions,
+    meter: &Meter,
 ) -> Result<Close, RunFault>
     ensures { WritesRun IsTrafficJson accepted.now
-        (W.contents writer.old) (W.contents writer.new) options.limit result }
+        (W.contents writer.old) (W.contents writer.new) options.schedule options.limit result }
 {
-    let (network, close) = run_unlogged(alloc, accepted, options.limit, options.schedule)?;
-    let text = traffic_text(alloc, &network, close)?;
-    write_text(writer, text.as_slice())?;
+    let (network, close) = run_unlogged(alloc, accepted, options.limit, options.schedule, meter)?;
+    let tail = traffic_tail(alloc, &network, close)?;
+    write_told(Form::Json, &tail, writer)?;
     Ok(close)
 }
 
@@ -91,10 +96,11 @@ pub fn json_step<R: Read, W: Write>(
     reader: &mut R,
     writer: &mut W,
     options: StepOptions,
+    meter: &Meter,
 ) -> Result<Close, RunFault>
     ensures { WritesRunBy IsTrafficJson (ReadsAs options.is_together (R.remaining reader.old))
-        (W.contents writer.old) (W.contents writer.new) options.limit result }
+        (W.contents writer.old) (W.contents writer.new) options.schedule options.limit result }
 {
     let accepted = read_as(alloc, reader, options.is_together)?;
-    json_plan(alloc, &accepted, writer, options)
+    json_plan(alloc, &accepted, writer, options, meter)
 }

@@ -1,186 +1,224 @@
 //! A run's traffic as JSON.
-ghost use Rattle.std.specs.Prelude.{◌≡◌, ◌++◌, map, OnOk};
+ghost use Rattle.std.specs.Prelude.{◌≡◌, ◌++◌, codes, map, OnErr, OnOk};
 ghost use Rattle.std.specs.List.{enumerate_from, flat_map};
 ghost use Rattle.vc_blocks.specs.Messages.{listed};
-ghost use Rattle.vc_stats.specs.Json.{channel_json, end_word as word_of_end, kind_json, kind_word as word_of_kind, message_json, messages_json, stop_json, traffic_json, value_json};
+ghost use Rattle.vc_stats.specs.Json.{channel_json, comma, end_word, message_json, stop_json, traffic_json, value_json};
+ghost use Rattle.vc_stats.specs.Private.Json.{end_json, head_json};
+ghost use Rattle.vc_text.specs.Pieces.{Passes};
+ghost use Rattle.vc_text.specs.Streams.{AppendsFront};
 ghost use Rattle.vc_text.specs.Views.{shown};
 
-use crate::fields::push_field;
-use crate::form::Form;
-use crate::json::{push_comma, push_named};
-use std::alloc::Global;
+use itoa::Buffer;
+use std::io::Write;
 use vc_blocks::Messages;
 use vc_core::Close;
 use vc_occam::ValueKind;
-use vc_packets::Memory;
-use vc_text::{ChannelView, push_value};
+use vc_text::{ChannelView, Piece, WriteFailed, put, put_digits, put_texts, put_value};
 
 /// Bytes as a text of hexadecimal digits.
-#[tactic(auto, using(std::proofs::Common::append_assoc))]
-fn push_hex(alloc: Global, out: &mut Vec<u8>, message: &[u8]) -> Result<(), Memory>
-    ensures { OnOk result (out.new.items ≡
-        out.old.items ++ value_json ValueKind.Bytes message.now) }
+fn put_hex<W: Write>(piece: &mut Piece, writer: &mut W, message: &[u8]) -> Result<(), WriteFailed>
+    ensures ok { OnOk result
+        (Passes (W.contents writer.old) piece.old.items (W.contents writer.new) piece.new.items
+        (value_json ValueKind.Bytes message.now)) }
+    ensures err { OnErr result
+        (AppendsFront (W.contents writer.old) (W.contents writer.new)
+        (piece.old.items ++ value_json ValueKind.Bytes message.now)) }
 {
-    let digits = hex::encode(alloc, message)?;
-    out.extend_from_slice(b"\"")?;
-    out.extend_from_slice(digits.as_bytes())?;
-    out.extend_from_slice(b"\"")?;
-    Ok(())
+    put(piece, writer, b"\"")?;
+    put_digits(piece, writer, message)?;
+    put(piece, writer, b"\"")
 }
 
 /// A message.
-fn push_json(
-    alloc: Global,
-    out: &mut Vec<u8>,
+fn put_json<W: Write>(
+    piece: &mut Piece,
+    writer: &mut W,
     kind: ValueKind,
     message: &[u8],
-) -> Result<(), Memory>
-    ensures { OnOk result (out.new.items ≡ out.old.items ++ value_json kind message.now) }
+) -> Result<(), WriteFailed>
+    ensures ok { OnOk result (Passes (W.contents writer.old) piece.old.items
+        (W.contents writer.new) piece.new.items (value_json kind message.now)) }
+    ensures err { OnErr result (AppendsFront (W.contents writer.old)
+        (W.contents writer.new) (piece.old.items ++ value_json kind message.now)) }
 {
     match kind {
-        ValueKind::Int => push_value(out, kind, message),
-        ValueKind::Bytes => push_hex(alloc, out, message),
+        ValueKind::Int => put_value(piece, writer, kind, message),
+        ValueKind::Bytes => put_hex(piece, writer, message),
     }
 }
 
+/// The comma before the n-th item of a list, if it is not the first.
+fn comma_before<'a>(n: usize) -> &'a [u8]
+    ensures { result.now ≡ comma n }
+{
+    if n == 0 { b"" } else { b"," }
+}
+
 /// The n-th message of a channel.
-#[tactic(auto, using(std::proofs::Common::append_assoc))]
-fn push_message(
-    alloc: Global,
-    out: &mut Vec<u8>,
+fn put_message<W: Write>(
+    piece: &mut Piece,
+    writer: &mut W,
     kind: ValueKind,
     n: usize,
     message: &[u8],
-) -> Result<(), Memory>
-    ensures { OnOk result (out.new.items ≡ out.old.items ++ message_json kind (n, message.now)) }
+) -> Result<(), WriteFailed>
+    ensures ok { OnOk result
+        (Passes (W.contents writer.old) piece.old.items (W.contents writer.new) piece.new.items
+        (message_json kind (n, message.now))) }
+    ensures err { OnErr result
+        (AppendsFront (W.contents writer.old) (W.contents writer.new)
+        (piece.old.items ++ message_json kind (n, message.now))) }
 {
-    push_comma(out, n)?;
-    push_json(alloc, out, kind, message)
+    put(piece, writer, comma_before(n))?;
+    put_json(piece, writer, kind, message)
 }
 
 /// The messages of a channel.
-fn push_messages(
-    alloc: Global,
-    out: &mut Vec<u8>,
+fn put_messages<W: Write>(
+    piece: &mut Piece,
+    writer: &mut W,
     kind: ValueKind,
     messages: Messages<'_>,
-) -> Result<(), Memory>
-    ensures { OnOk result (out.new.items ≡
-        out.old.items ++ flat_map (message_json kind) (enumerate_from 0 (listed messages.entry))) }
+) -> Result<(), WriteFailed>
+    ensures ok { OnOk result
+        (Passes (W.contents writer.old) piece.old.items (W.contents writer.new) piece.new.items
+        (flat_map (message_json kind) (enumerate_from 0 (listed messages.entry)))) }
+    ensures err { OnErr result
+        (AppendsFront (W.contents writer.old) (W.contents writer.new)
+        (piece.old.items
+        ++ flat_map (message_json kind) (enumerate_from 0 (listed messages.entry)))) }
 {
     for n in 0..messages.len() {
         let Some(message) = messages.get(n) else {
             unreachable!();
         };
-        push_message(alloc, out, kind, n, message)?;
+        put_message(piece, writer, kind, n, message)?;
     }
     Ok(())
 }
 
-/// The list of the messages of a channel.
-#[tactic(auto, using(std::proofs::Common::append_assoc), unfolding(crate::specs::Json::messages_json))]
-fn push_taken(
-    alloc: Global,
-    out: &mut Vec<u8>,
-    kind: ValueKind,
-    messages: Messages<'_>,
-) -> Result<(), Memory>
-    ensures { OnOk result
-        (out.new.items ≡ out.old.items ++ messages_json kind (listed messages.entry)) }
+/// The beginning of the n-th channel, up to its messages.
+fn put_head<W: Write>(
+    piece: &mut Piece,
+    writer: &mut W,
+    n: usize,
+    view: &ChannelView<'_>,
+) -> Result<(), WriteFailed>
+    ensures ok { OnOk result (Passes (W.contents writer.old) piece.old.items
+        (W.contents writer.new) piece.new.items (head_json n (shown view.now))) }
+    ensures err { OnErr result (AppendsFront (W.contents writer.old)
+        (W.contents writer.new) (piece.old.items ++ head_json n (shown view.now))) }
 {
-    out.extend_from_slice(b",\"taken\":[")?;
-    push_messages(alloc, out, kind, messages)?;
-    out.extend_from_slice(b"]")?;
-    Ok(())
+    let mut offered = Buffer::new();
+    let texts: [&[u8]; 8] = [
+        if n == 0 { b"" } else { b"," },
+        b"\n{\"name\":\"",
+        view.name.as_bytes(),
+        b"\",\"kind\":\"",
+        match view.kind {
+            ValueKind::Int => b"int",
+            ValueKind::Bytes => b"bytes",
+        },
+        b"\",\"offered\":",
+        offered.format(view.offered).as_bytes(),
+        b",\"taken\":[",
+    ];
+    put_texts(piece, writer, &texts)
 }
 
-fn kind_word(kind: ValueKind) -> &'static [u8]
-    ensures { result.now ≡ word_of_kind kind }
-{
-    match kind {
-        ValueKind::Int => b"int",
-        ValueKind::Bytes => b"bytes",
-    }
-}
-
-/// What the messages of a channel are.
-#[tactic(auto, using(std::proofs::Common::append_assoc))]
-fn push_kind(out: &mut Vec<u8>, kind: ValueKind) -> Result<(), Memory>
-    ensures { OnOk result (out.new.items ≡ out.old.items ++ kind_json kind) }
-{
-    out.extend_from_slice(b",\"kind\":\"")?;
-    out.extend_from_slice(kind_word(kind))?;
-    out.extend_from_slice(b"\"")?;
-    Ok(())
-}
-
-/// Whether a channel was stopped, and the end of its object.
-fn push_stopped(out: &mut Vec<u8>, is_stopped: bool) -> Result<(), Memory>
-    ensures { OnOk result (out.new.items ≡ out.old.items ++ stop_json is_stopped) }
+fn stop_word<'a>(is_stopped: bool) -> &'a [u8]
+    ensures { result.now ≡ stop_json is_stopped }
 {
     if is_stopped {
-        out.extend_from_slice(b",\"stopped\":true}")?;
+        b",\"stopped\":true}"
     } else {
-        out.extend_from_slice(b",\"stopped\":false}")?;
+        b",\"stopped\":false}"
     }
-    Ok(())
+}
+
+/// The end of a channel, after its messages.
+fn put_end<W: Write>(
+    piece: &mut Piece,
+    writer: &mut W,
+    view: &ChannelView<'_>,
+) -> Result<(), WriteFailed>
+    ensures ok { OnOk result (Passes (W.contents writer.old) piece.old.items
+        (W.contents writer.new) piece.new.items (end_json (shown view.now))) }
+    ensures err { OnErr result (AppendsFront (W.contents writer.old)
+        (W.contents writer.new) (piece.old.items ++ end_json (shown view.now))) }
+{
+    let mut finished = Buffer::new();
+    let texts: [&[u8]; 3] = [
+        b"],\"finished\":",
+        finished.format(view.finished).as_bytes(),
+        stop_word(view.is_stopped),
+    ];
+    put_texts(piece, writer, &texts)
 }
 
 /// The n-th channel.
-#[tactic(auto, using(std::proofs::Common::append_assoc), unfolding(crate::specs::Json::channel_json))]
-fn push_channel(
-    alloc: Global,
-    out: &mut Vec<u8>,
+fn put_channel<W: Write>(
+    piece: &mut Piece,
+    writer: &mut W,
     n: usize,
     view: &ChannelView<'_>,
-) -> Result<(), Memory>
-    ensures { OnOk result (out.new.items ≡ out.old.items ++ channel_json (n, shown view.now)) }
+) -> Result<(), WriteFailed>
+    ensures ok { OnOk result (Passes (W.contents writer.old) piece.old.items
+        (W.contents writer.new) piece.new.items (channel_json (n, shown view.now))) }
+    ensures err { OnErr result (AppendsFront (W.contents writer.old)
+        (W.contents writer.new) (piece.old.items ++ channel_json (n, shown view.now))) }
 {
-    push_named(out, n, view.name.as_bytes())?;
-    push_kind(out, view.kind)?;
-    push_field(out, Form::Json, b"offered", view.offered as u64)?;
-    push_taken(alloc, out, view.kind, view.taken)?;
-    push_field(out, Form::Json, b"finished", view.finished)?;
-    push_stopped(out, view.is_stopped)
+    put_head(piece, writer, n, view)?;
+    put_messages(piece, writer, view.kind, view.taken)?;
+    put_end(piece, writer, view)
 }
 
 /// The channels.
-fn push_channels(alloc: Global, out: &mut Vec<u8>, views: &[ChannelView<'_>]) -> Result<(), Memory>
-    ensures { OnOk result (out.new.items ≡
-        out.old.items ++ flat_map channel_json (enumerate_from 0 (map shown views.now))) }
+fn put_channels<W: Write>(
+    piece: &mut Piece,
+    writer: &mut W,
+    views: &[ChannelView<'_>],
+) -> Result<(), WriteFailed>
+    ensures ok { OnOk result
+        (Passes (W.contents writer.old) piece.old.items (W.contents writer.new) piece.new.items
+        (flat_map channel_json (enumerate_from 0 (map shown views.now)))) }
+    ensures err { OnErr result
+        (AppendsFront (W.contents writer.old) (W.contents writer.new)
+        (piece.old.items ++ flat_map channel_json (enumerate_from 0 (map shown views.now)))) }
 {
     for (n, view) in views.iter().enumerate() {
-        push_channel(alloc, out, n, view)?;
+        put_channel(piece, writer, n, view)?;
     }
     Ok(())
 }
 
-fn end_word(close: Close) -> &'static [u8]
-    ensures { result.now ≡ word_of_end close }
+/// What follows the channels: how the run ended.
+fn end_text<'a>(close: Close) -> &'a [u8]
+    ensures { result.now ≡ codes "],\"end\":\"" ++ end_word close ++ codes "\"" }
 {
     match close {
-        Close::Done => b"done",
-        Close::Quiet => b"quiet",
-        Close::Limit | Close::GateClosed | Close::ClockFull => b"limit",
-        Close::Failed(_) => b"memory",
+        Close::Done => b"],\"end\":\"done\"",
+        Close::Quiet => b"],\"end\":\"quiet\"",
+        Close::Limit | Close::GateClosed | Close::ClockFull => b"],\"end\":\"limit\"",
+        Close::Failed(_) => b"],\"end\":\"memory\"",
     }
 }
 
-/// Adds a run's traffic to a text, as the beginning of a JSON object: its channels, and how it ended. It fails for want of memory alone.
-#[tactic(auto, using(std::proofs::Common::append_assoc), unfolding(crate::specs::Json::traffic_json))]
-pub(crate) fn push_traffic(
-    alloc: Global,
-    out: &mut Vec<u8>,
+/// A run's traffic, as the beginning of a JSON object: its channels, and how it ended.
+pub(crate) fn put_traffic<W: Write>(
+    piece: &mut Piece,
+    writer: &mut W,
     views: &[ChannelView<'_>],
     close: Close,
-) -> Result<(), Memory>
-    ensures { OnOk result (out.new.items ≡
-        out.old.items ++ traffic_json (map shown views.now) close) }
+) -> Result<(), WriteFailed>
+    ensures ok { OnOk result
+        (Passes (W.contents writer.old) piece.old.items (W.contents writer.new) piece.new.items
+        (traffic_json (map shown views.now) close)) }
+    ensures err { OnErr result
+        (AppendsFront (W.contents writer.old) (W.contents writer.new)
+        (piece.old.items ++ traffic_json (map shown views.now) close)) }
 {
-    out.extend_from_slice(b"{\"channels\":[")?;
-    push_channels(alloc, out, views)?;
-    out.extend_from_slice(b"],\"end\":\"")?;
-    out.extend_from_slice(end_word(close))?;
-    out.extend_from_slice(b"\"")?;
-    Ok(())
+    put(piece, writer, b"{\"channels\":[")?;
+    put_channels(piece, writer, views)?;
+    put(piece, writer, end_text(close))
 }

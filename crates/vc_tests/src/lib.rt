@@ -17,6 +17,8 @@ mod order;
 #[cfg(test)]
 mod readers;
 #[cfg(test)]
+mod replays;
+#[cfg(test)]
 mod streams;
 #[cfg(test)]
 mod text;

@@ -2,12 +2,11 @@
 use crate::networks::{HELLO, HELLO_TRAFFIC};
 use crate::streams::Kept;
 use std::alloc::Global;
-use std::rt::Files;
 use std::sync::Wait;
 use std::thread::Threads;
 use vc_stats::Form;
 use vc_text::{Schedule, StepOptions, ThreadOptions};
-use vc_words::{Account, Line, LineFault, command, run_words};
+use vc_words::{Account, EventFiles, Line, LineFault, Meter, command, run_words};
 
 /// How `step` runs a network where the words say nothing.
 const USUAL: StepOptions = StepOptions {
@@ -127,7 +126,7 @@ fn command_lines_ask(rt: HostRuntime) {
 }
 
 /// Whether the program prints the traffic of the hello network with status 0, or that memory is short with status 4.
-fn prints<T: Files + Threads + Wait + Sync>(rt: &T, alloc: Global) -> bool {
+fn prints<T: EventFiles + Threads + Wait + Sync>(rt: &T, alloc: Global) -> bool {
     let mut kept = Kept::new();
     let status = run_words(
         rt,
@@ -135,6 +134,7 @@ fn prints<T: Files + Threads + Wait + Sync>(rt: &T, alloc: Global) -> bool {
         &["vcnet", "step"],
         &mut HELLO.as_bytes(),
         &mut kept,
+        &Meter::new(),
     );
     match status {
         0 => kept.written() == HELLO_TRAFFIC.as_bytes(),

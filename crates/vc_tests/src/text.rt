@@ -22,7 +22,7 @@ fn write_hello<W: Write>(alloc: Global, writer: &mut W) -> Result<(), RunFault> 
         finished: 1,
         is_stopped: false,
     };
-    write_channels(alloc, &[view], Close::Done, writer)
+    write_channels(&[view], Close::Done, writer)
 }
 
 #[test]

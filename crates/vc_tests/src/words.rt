@@ -2,15 +2,14 @@
 use crate::networks::{HELLO, HELLO_TRAFFIC};
 use crate::streams::{Failing, Stubborn};
 use std::alloc::Global;
-use std::rt::Files;
 use std::sync::Wait;
 use std::thread::Threads;
-use vc_words::run_words;
+use vc_words::{EventFiles, Meter, run_words};
 
 const STEP: &[&str] = &["vcnet", "step"];
 
 /// The status and what is printed, where the reader fails at the read of that number.
-fn read_fails<T: Files + Threads + Wait + Sync>(
+fn read_fails<T: EventFiles + Threads + Wait + Sync>(
     rt: &T,
     alloc: Global,
     words: &[&str],
@@ -21,7 +20,7 @@ fn read_fails<T: Files + Threads + Wait + Sync>(
         reads_left,
     };
     let mut printed = Vec::new(alloc);
-    let status = run_words(rt, alloc, words, &mut reader, &mut printed);
+    let status = run_words(rt, alloc, words, &mut reader, &mut printed, &Meter::new());
     (status, printed)
 }
 
@@ -63,14 +62,18 @@ fn a_failed_read_is_a_fault(rt: HostRuntime) {
 }
 
 /// Whether the status is 6, and a front of the traffic is printed, where the writer fails at the write of that number.
-fn write_fails<T: Files + Threads + Wait + Sync>(rt: &T, alloc: Global, calls_left: usize) -> bool {
+fn write_fails<T: EventFiles + Threads + Wait + Sync>(
+    rt: &T,
+    alloc: Global,
+    calls_left: usize,
+) -> bool {
     let mut reader = HELLO.as_bytes();
     let mut writer = Stubborn {
         taken: Vec::new(alloc),
         calls_left,
         fails: true,
     };
-    let status = run_words(rt, alloc, STEP, &mut reader, &mut writer);
+    let status = run_words(rt, alloc, STEP, &mut reader, &mut writer, &Meter::new());
     status == 6 && Some(writer.taken.as_slice()) == HELLO_TRAFFIC.as_bytes().get(..calls_left)
 }
 

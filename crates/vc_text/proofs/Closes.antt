@@ -1,9 +1,9 @@
 -- How a run closes.
-use Rattle.std.proofs.Common.{◌≡◌, ℕ, ◌<◌, ◌≤◌, Option, Some, None, is_some, ◌+◌, Bool, true, false, List, refl, arith}
+use Rattle.std.proofs.Common.{◌≡◌, ℕ, ◌<◌, ◌≤◌, ◌+◌, Bool, true, false, List, refl, arith}
 use Rattle.vc_plan.specs.declared.plan.Plan.{Plan}
 use Rattle.vc_core.specs.State.{State, shown, IsNetworkOf}
 use Rattle.vc_core.specs.Private.Turns.{Rests, IsAtRest}
-use Rattle.vc_core.specs.Turns.{FindsTake, FindsEvent}
+use Rattle.vc_core.specs.Choices.{HasEvent}
 use Rattle.vc_actor.specs.Turns.{actors}
 use Rattle.vc_actor.specs.declared.act.Act.TheVariants.{Take}
 use Rattle.vc_core.specs.declared.event.Event.{Event}
@@ -13,24 +13,16 @@ use Rattle.vc_core.specs.declared.close.Close.TheVariants.{Quiet}
 use Rattle.vc_core.specs.Replay.{Reached, Replays}
 use Rattle.vc_core.specs.Still.{OnlyMoves}
 use Rattle.vc_core.proofs.Still.{only_processes_hold}
-use Rattle.vc_text.specs.Close.{HasEvent, Closes, OnlyProcessesWait}
+use Rattle.vc_text.specs.Close.{Closes, OnlyProcessesWait}
 use Rattle.vc_text.specs.Private.Simulation.{counted}
 
 -- where all actors rest
 pub all_rest : (p : Plan) (s : State) → IsNetworkOf p s → (n : ℕ) → actors p ≤ n → ((k : ℕ) → k < n → Rests p s k) → IsAtRest p s
 all_rest p s is n few rests = at_rest p s is (λ k less. rests k (omega arith))
 
--- what an actor's two searches find
-pub event_of : (p : Plan) (s : State) (k : ℕ) (l : ℕ) → k < actors p → FindsTake p s k (Some l) → HasEvent p s k true
-event_of p s k l node takes = (record { actor = k; act = Take l 0 }, refl, takes node 0)
-
-pub has_of : (p : Plan) (s : State) (k : ℕ) (o : Option Event) → FindsTake p s k None → FindsEvent p s k o → HasEvent p s k (is_some o)
-has_of p s k None takes acts = record { takes = takes; acts = acts }
-has_of p s k (Some e) takes (same, none, can) = (e, same, can)
-
-pub some_take : (p : Plan) (s : State) (k : ℕ) (o : Option ℕ) → is_some o ≡ true → k < actors p → FindsTake p s k o → HasEvent p s k true
-some_take p s k (Some l) some node takes = event_of p s k l node takes
-some_take p s k None some node takes = absurd (cc)
+-- an actor without an event rests
+pub rests_of : (p : Plan) (s : State) (k : ℕ) → (HasEvent p (shown s) k → ⊥) → Rests p s k
+rests_of p s k idle = record { takes = λ l w can. idle (record { actor = k; act = Take l w }, refl, can); acts = λ a none can. idle (record { actor = k; act = a }, refl, can) }
 
 -- a step that made an event or none
 pub counted_few : (had : Bool) (old new : ℕ) → new ≡ counted had old → (old ≤ new) × (new ≤ old + 1)

@@ -10,3 +10,7 @@ pub mod LongerRuns
 pub mod StepText
 pub mod LogEntries
 pub mod StepsInARow
+pub mod DrawnEvents
+pub mod OneRun
+pub mod TextWrites
+pub mod DigitTexts

@@ -8,6 +8,8 @@ use Rattle.vc_core.specs.declared.event.Event.{Event}
 use Rattle.vc_plan.specs.declared.plan.Plan.{Plan as Network}
 use Rattle.vc_text.specs.CheckText.{ReadsAccepted}
 use Rattle.vc_text.specs.OneNode.{JoinsNodes, ReadsTogether}
+use Rattle.vc_text.specs.declared.schedule.Schedule.{Schedule}
+use Rattle.vc_text.specs.declared.schedule.Schedule.TheVariants.{InTurn}
 use Rattle.vc_text.specs.RunText.{IsRunWithin, RunText, RunsPlan, StepsBy, WritesRun, WritesRunBy}
 use Rattle.vc_text.specs.ChannelStates.{channels_of}
 use Rattle.vc_text.specs.Streams.{Writes}
@@ -24,7 +26,7 @@ handed_on (Err e) fault is = ap Err is.1
 
 -- the traffic could not be written, or there was no memory for it
 pub unwritten : (old new : Option (List ℕ)) (limit : ℕ) (plan : Network) (events : List Event) (x : NetworkState) (close : Close) (fault : RunFault) →
-    IsRunWithin plan limit events x close → Writes old new (traffic (channels_of plan x) close) (Err fault) → RunsPlan plan old new limit (Err fault)
+    IsRunWithin plan InTurn limit events x close → Writes old new (traffic (channels_of plan x) close) (Err fault) → RunsPlan plan old new limit (Err fault)
 unwritten old new limit plan events x close Write ran w = (events, x, close, ran, w)
 unwritten old new limit plan events x close Memory ran w = w
 unwritten old new limit plan events x close y ran w = absurd w
@@ -50,16 +52,16 @@ writes_one IsText old new text (Err Memory) is w = w
 writes_one IsText old new text x is w = absurd w
 
 -- a text of a run could not be written, or there was no memory for it
-pub run_unwritten : (IsText : RunText) (old new : Option (List ℕ)) (limit : ℕ) (plan : Network) (events : List Event) (x : NetworkState) (close : Close) (fault : RunFault) →
-    IsRunWithin plan limit events x close → WritesOne (IsText plan events x close) old new (Err fault) → WritesRun IsText plan old new limit (Err fault)
-run_unwritten IsText old new limit plan events x close Write ran w = (events, x, close, ran, w)
-run_unwritten IsText old new limit plan events x close Memory ran w = w
-run_unwritten IsText old new limit plan events x close y ran w = absurd w
+pub run_unwritten : (IsText : RunText) (old new : Option (List ℕ)) (schedule : Schedule) (limit : ℕ) (plan : Network) (events : List Event) (x : NetworkState) (close : Close) (fault : RunFault) →
+    IsRunWithin plan schedule limit events x close → WritesOne (IsText plan events x close) old new (Err fault) → WritesRun IsText plan old new schedule limit (Err fault)
+run_unwritten IsText old new schedule limit plan events x close Write ran w = (events, x, close, ran, w)
+run_unwritten IsText old new schedule limit plan events x close Memory ran w = w
+run_unwritten IsText old new schedule limit plan events x close y ran w = absurd w
 
 -- the plan was read, and it was run
-pub writes_by : (IsText : RunText) (Reads : Result Network RunFault → Type 0) → Reads (Err Memory) → (plan : Network) (old new : Option (List ℕ)) (limit : ℕ) (result : Result Close RunFault) →
-    Reads (Ok plan) → WritesRun IsText plan old new limit result → WritesRunBy IsText Reads old new limit result
-writes_by IsText Reads memory plan old new limit (Ok close) read ran = (plan, read, ran)
-writes_by IsText Reads memory plan old new limit (Err Write) read ran = (plan, read, ran)
-writes_by IsText Reads memory plan old new limit (Err Memory) read ran = (memory, ran)
-writes_by IsText Reads memory plan old new limit x read ran = absurd ran
+pub writes_by : (IsText : RunText) (Reads : Result Network RunFault → Type 0) → Reads (Err Memory) → (plan : Network) (old new : Option (List ℕ)) (schedule : Schedule) (limit : ℕ) (result : Result Close RunFault) →
+    Reads (Ok plan) → WritesRun IsText plan old new schedule limit result → WritesRunBy IsText Reads old new schedule limit result
+writes_by IsText Reads memory plan old new schedule limit (Ok close) read ran = (plan, read, ran)
+writes_by IsText Reads memory plan old new schedule limit (Err Write) read ran = (plan, read, ran)
+writes_by IsText Reads memory plan old new schedule limit (Err Memory) read ran = (memory, ran)
+writes_by IsText Reads memory plan old new schedule limit x read ran = absurd ran

@@ -1,21 +1,14 @@
 -- What the close of a run says of the state after it.
-use Rattle.std.specs.Prelude.{◌≡◌, ℕ, Bool, true, false, ⊤}
+use Rattle.std.specs.Prelude.{◌≡◌, ℕ, ⊤}
 use Rattle.vc_plan.specs.declared.plan.Plan.{Plan}
 use Rattle.vc_plan.specs.Dependencies.{HasRanks}
-use Rattle.vc_core.specs.PossibleEvents.{NetworkState, CanHappen, CanHappenIn}
-use Rattle.vc_core.specs.State.{State}
+use Rattle.vc_core.specs.PossibleEvents.{NetworkState, CanHappenIn}
 use Rattle.vc_core.specs.Still.{IsHeldUp}
-use Rattle.vc_core.specs.Private.Turns.{Rests}
 use Rattle.vc_core.specs.Turns.{IsAtRestIn}
 use Rattle.vc_placement.specs.OneNode.{HaveEnded}
 use Rattle.vc_core.specs.declared.event.Event.{Event}
 use Rattle.vc_core.specs.declared.close.Close.{Close}
 use Rattle.vc_core.specs.declared.close.Close.TheVariants.{Done, Quiet, Limit}
-
--- whether the actor has an event
-abbrev pub HasEvent : Plan → State → ℕ → Bool → Type 0
-HasEvent p s k true = (e : Event) × (e.actor ≡ k) × CanHappen p s e
-HasEvent p s k false = Rests p s k
 
 -- a network whose ports have ranks is quiet because of its processes alone
 abbrev pub OnlyProcessesWait : Plan → NetworkState → Close → Type 0

@@ -1,4 +1,4 @@
--- Whether the packets of a network can come to wait for one another in a circle, as it is told.
+-- A cycle of dependencies along which packets of a network might wait for one another, as it is shown.
 use Rattle.std.specs.Prelude.{◌≡◌, ℕ, Bool, List, ◌++◌, codes, Option, Some, None, is_none, Result, Ok, Err}
 use Rattle.std.specs.Io.KnownBytes.{Appends}
 use Rattle.std.specs.List.{flat_map}

@@ -141,6 +141,7 @@ check_line plan why = check_head why ++ offender_text plan why
 abbrev pub thread_line : ThreadFault → List ℕ
 thread_line thread.Memory = codes "fault memory"
 thread_line thread.Start = codes "fault thread"
+thread_line thread.Gate = codes "fault thread"
 
 -- ---- the whole
 

@@ -5,8 +5,11 @@ pub mod Deadlock
 pub mod EventLog
 pub mod FaultLine
 pub mod OneNode
+pub mod OneRun
+pub mod Pieces
 pub mod Private
 pub mod RunText
+pub mod Schedules
 pub mod Streams
 pub mod Tail
 pub mod Takes

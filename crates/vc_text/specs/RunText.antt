@@ -10,6 +10,9 @@ use Rattle.vc_plan.specs.declared.plan.Plan.{Plan as Network}
 use Rattle.vc_text.specs.declared.fault.RunFault.{RunFault}
 use Rattle.vc_text.specs.declared.fault.RunFault.TheVariants.{Write, Memory}
 use Rattle.vc_text.specs.declared.run.StepReport.{StepReport}
+use Rattle.vc_text.specs.declared.schedule.Schedule.{Schedule}
+use Rattle.vc_text.specs.declared.schedule.Schedule.TheVariants.{InTurn}
+use Rattle.vc_text.specs.Schedules.{IsInOrder}
 use Rattle.vc_text.specs.Streams.{AppendsFront}
 use Rattle.vc_text.specs.CheckText.{ReadsAccepted}
 use Rattle.vc_text.specs.OneNode.{ReadsTogether}
@@ -17,22 +20,24 @@ use Rattle.vc_text.specs.Close.{Closes, OnlyProcessesWait}
 use Rattle.vc_text.specs.Takes.{HasWordsOf}
 use Rattle.vc_text.specs.Traffic.{traffic}
 
--- An accepted plan's network was run for at most so many events, which replay, with the headline and a linearization there. The words of
--- each actor's takes are those of the generator of seed 0 and its number. The run closes as the state says, and where it is quiet without
--- a cycle of dependencies only its processes wait.
-pub record IsRunWithin (plan : Network) (limit : ℕ) (events : List Event) (x : NetworkState) (close : Close) : Type 0 where
+-- An accepted plan's network was run for at most so many events, which replay, with the headline and a linearization there, and are in the
+-- schedule's order. The words of each actor's takes are those of the generator of seed 0 and its number. The run closes as the state says.
+-- If it is quiet and there is no cycle of dependencies, only its processes wait.
+pub record IsRunWithin (plan : Network) (schedule : Schedule) (limit : ℕ) (events : List Event) (x : NetworkState) (close : Close) : Type 0 where
   pub few : length events ≤ limit
   pub runs : RunsTo plan events x
+  pub order : IsInOrder plan schedule events x
   pub words : HasWordsOf plan 0 events
   pub closes : Closes plan x (length events) limit close
   pub waits : OnlyProcessesWait plan x close
 
--- it was run so, and the traffic of the state was written, or a front of that before a fault of the writer; without memory nothing was
+-- It was run so, each actor in turn, and the traffic of the state was written, or a prefix of it if the writer failed. Out of memory,
+-- nothing was written.
 abbrev pub RunsPlan : Network → Option (List ℕ) → Option (List ℕ) → ℕ → Result StepReport RunFault → Type 0
 RunsPlan plan old new limit (Ok report) =
-    (x : NetworkState) × IsRunWithin plan limit report.events x report.close × Appends old new (traffic (channels_of plan x) report.close)
+    (x : NetworkState) × IsRunWithin plan InTurn limit report.events x report.close × Appends old new (traffic (channels_of plan x) report.close)
 RunsPlan plan old new limit (Err Write) =
-    (events : List Event) × (x : NetworkState) × (close : Close) × IsRunWithin plan limit events x close × AppendsFront old new (traffic (channels_of plan x) close)
+    (events : List Event) × (x : NetworkState) × (close : Close) × IsRunWithin plan InTurn limit events x close × AppendsFront old new (traffic (channels_of plan x) close)
 RunsPlan plan old new limit (Err Memory) = new ≡ old
 RunsPlan plan old new limit (Err fault) = ⊥
 
@@ -55,20 +60,20 @@ abbrev pub RunText : Type 1
 RunText = Network → List Event → NetworkState → Close → List ℕ → Type 0
 
 -- such a text was written, or a front of one before a fault of the writer; without memory nothing was
-abbrev pub WritesRun : RunText → Network → Option (List ℕ) → Option (List ℕ) → ℕ
+abbrev pub WritesRun : RunText → Network → Option (List ℕ) → Option (List ℕ) → Schedule → ℕ
     → Result Close RunFault → Type 0
-WritesRun IsText plan old new limit (Ok close) =
-    (events : List Event) × (x : NetworkState) × IsRunWithin plan limit events x close
+WritesRun IsText plan old new schedule limit (Ok close) =
+    (events : List Event) × (x : NetworkState) × IsRunWithin plan schedule limit events x close
     × ((text : List ℕ) × IsText plan events x close text × Appends old new text)
-WritesRun IsText plan old new limit (Err Write) =
-    (events : List Event) × (x : NetworkState) × (close : Close) × IsRunWithin plan limit events x close
+WritesRun IsText plan old new schedule limit (Err Write) =
+    (events : List Event) × (x : NetworkState) × (close : Close) × IsRunWithin plan schedule limit events x close
     × ((text : List ℕ) × IsText plan events x close text × AppendsFront old new text)
-WritesRun IsText plan old new limit (Err Memory) = new ≡ old
-WritesRun IsText plan old new limit (Err fault) = ⊥
+WritesRun IsText plan old new schedule limit (Err Memory) = new ≡ old
+WritesRun IsText plan old new schedule limit (Err fault) = ⊥
 
 -- the plan that is read so is run; else nothing was written
-abbrev pub WritesRunBy : RunText → (Result Network RunFault → Type 0) → Option (List ℕ) → Option (List ℕ) → ℕ
+abbrev pub WritesRunBy : RunText → (Result Network RunFault → Type 0) → Option (List ℕ) → Option (List ℕ) → Schedule → ℕ
     → Result Close RunFault → Type 0
-WritesRunBy IsText Reads old new limit (Ok close) = (plan : Network) × Reads (Ok plan) × WritesRun IsText plan old new limit (Ok close)
-WritesRunBy IsText Reads old new limit (Err Write) = (plan : Network) × Reads (Ok plan) × WritesRun IsText plan old new limit (Err Write)
-WritesRunBy IsText Reads old new limit (Err fault) = Reads (Err fault) × (new ≡ old)
+WritesRunBy IsText Reads old new schedule limit (Ok close) = (plan : Network) × Reads (Ok plan) × WritesRun IsText plan old new schedule limit (Ok close)
+WritesRunBy IsText Reads old new schedule limit (Err Write) = (plan : Network) × Reads (Ok plan) × WritesRun IsText plan old new schedule limit (Err Write)
+WritesRunBy IsText Reads old new schedule limit (Err fault) = Reads (Err fault) × (new ≡ old)

@@ -1,4 +1,4 @@
-//! Whether the packets of a network can come to wait for one another in a circle.
+//! A cycle of dependencies along which packets of a network might wait for one another.
 ghost use Rattle.std.specs.Prelude.{◌≡◌, ◌++◌, IfOk, OnOk};
 ghost use Rattle.vc_text.specs.Deadlock.{TellsDeadlock, cycle_text as text_of_cycle, next_port, ports_text};
 ghost use Rattle.vc_text.specs.Streams.{Writes};

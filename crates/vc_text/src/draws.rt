@@ -1,163 +1,173 @@
-//! Who makes the next event of a run in a random order.
-ghost use Rattle.std.specs.Prelude.{◌≡◌, ◌<◌, ◌≤◌, ◌-◌, ◌^◌, IfOk, IfSome, OnOk};
-ghost use Rattle.vc_text.specs.Private.Simulation.{LeadsOn, LeadsOnSoFar, RunsOut, counted};
+//! Events in a random order: who makes the next event of a run is drawn, and what it does.
+ghost use Rattle.std.specs.Prelude.{◌≡◌, ◌<◌, ◌≤◌, ◌%◌, ◌-◌, ◌^◌, ℕ, false, Ok, IfOk, IfSome, OnOk};
+ghost use Rattle.rand_pcg.specs.Pcg.{pcg32};
+ghost use Rattle.vc_core.specs.Choices.{MayMakeOne, without_word};
+ghost use Rattle.vc_core.specs.PossibleEvents.{CanHappen};
+ghost use Rattle.vc_core.specs.Private.Turns.{IsAtRest};
+ghost use Rattle.vc_core.specs.State.{shown, state_of, IsNetworkOf, MakesEvent};
+ghost use Rattle.vc_plan.specs.declared.plan.Plan.{Plan};
+ghost use Rattle.vc_text.specs.Private.Draws.{DrawsActor, DrawsAct, DrawsOn, GivesWord, IsOfPlan, RunsBy};
+ghost use Rattle.vc_text.specs.Private.Simulation.{RunsOut, counted};
+ghost use Rattle.vc_text.specs.Schedules.{drawer};
 
 use crate::event_sink::EventSink;
-use crate::masks::drawn;
-use crate::simulation::{Progress, Simulation};
+use crate::generators::Generators;
+use crate::schedule::Schedule;
+use crate::simulation::Simulation;
 use rand_core::utils::NextWord;
 use rand_pcg::Lcg64Xsh32;
-use vc_core::ActKind;
+use std::alloc::Global;
+use vc_core::{Act, Event, Network, StepRefused};
 use vc_packets::Memory;
+use vc_threads::Meter;
 
-/// The stream of the generator that draws actors: no actor has this number.
+/// The stream of the generator that draws events: no actor has this number.
 const STREAM: u64 = u64::MAX;
 
-/// How many actors are drawn before all of them are asked in turn.
-const TRIES: u8 = 64;
-
-/// Who makes the next event of a run in a random order: an actor makes some events after another, and then another one is drawn.
+/// What draws the events of a run: a generator, and the lists among which it chooses, whose room serves again.
 #[derive(Drop)]
 pub(crate) struct Draws {
-    words: Lcg64Xsh32,
-    actor: u8,
-    left: u32,
+    pub(crate) words: Lcg64Xsh32,
+    ready: Vec<u8>,
+    acts: Vec<Act>,
 }
 
 impl Draws {
     /// The draws of the generator of this seed.
-    pub(crate) fn new(seed: u32) -> Draws {
+    pub(crate) fn new(alloc: Global, seed: u32) -> Draws
+        ensures { result.words ≡ drawer seed }
+    {
         Draws {
             words: Lcg64Xsh32::new(u64::from(seed), STREAM),
-            actor: 0,
-            left: 0,
+            ready: Vec::new(alloc),
+            acts: Vec::new(alloc),
         }
     }
 
-    /// The actor whose turn it is, of those that are awake; none where none is.
-    pub(crate) fn next_actor(&mut self, awake: u64) -> Option<u8>
-        ensures { IfSome result (λ actor. actor < 64) }
+    /// Draws who makes the next event from those that have one. The answer is None if none has.
+    fn next_actor(&mut self, network: &mut Network) -> Result<Option<u8>, Memory>
+        ensures draws { (p : Plan) → IsNetworkOf p (state_of network.old) →
+            IfOk result
+            (DrawsActor p (shown (state_of network.old)) self.old.words self.new.words) }
+        ensures may { (p : Plan) → IsNetworkOf p (state_of network.old) →
+            IfOk result (λ found. IfSome found (MayMakeOne (state_of network.old))) }
+        ensures same { state_of network.new ≡ state_of network.old }
     {
-        if self.left > 0 && self.actor < 64 {
-            self.left -= 1;
-            return Some(self.actor);
+        network.list_ready(&mut self.ready)?;
+        let count = self.ready.len();
+        if count == 0 {
+            return Ok(None);
         }
-        let next = drawn(awake, self.words.next_word());
-        if let Some(actor) = next {
-            self.actor = actor;
-            self.left = self.words.next_word() % 64;
-        }
-        next
+        let place = drawn(&mut self.words, count);
+        Ok(Some(self.ready[place]))
     }
 
-    /// The kind of act that the actor is to make, or none for what it makes next.
-    pub(crate) fn kind(&mut self) -> Option<ActKind> {
-        match self.words.next_word() % 8 {
-            0 => Some(ActKind::Pass),
-            1 => Some(ActKind::Route),
-            2 => Some(ActKind::Put),
-            3 => Some(ActKind::Fct),
-            4 => Some(ActKind::Proc),
-            _ => None,
-        }
+    /// Draws what an actor does that has an event, of what it can do; a take is drawn without its word.
+    fn next_act(&mut self, network: &Network, actor: u8) -> Result<Act, Memory>
+        requires { MayMakeOne (state_of network.now) actor }
+        ensures { (p : Plan) → IsNetworkOf p (state_of network.now) → IfOk result
+            (DrawsAct p (shown (state_of network.now)) actor self.old.words self.new.words) }
+    {
+        network.list_acts(actor, &mut self.acts)?;
+        let many = self.acts.len();
+        let place = drawn(&mut self.words, many);
+        Ok(self.acts[place])
     }
+}
 
-    /// It has no such event: another one is drawn.
-    pub(crate) fn pass_on(&mut self) {
-        self.left = 0;
+/// A place among so many, which the generator's next word draws.
+fn drawn(words: &mut Lcg64Xsh32, count: usize) -> usize
+    requires { 0 < count }
+    ensures less { result < count }
+    ensures place { result ≡ (pcg32 words.old).0 % count }
+    ensures next { words.new ≡ (pcg32 words.old).1 }
+{
+    words.next_word() as usize % count
+}
+
+/// The act, of which a take has the next word of its actor.
+fn with_word(generators: &mut Generators, actor: u8, act: Act) -> Act
+    requires { actor < 64 }
+    ensures same { without_word result ≡ without_word act }
+    ensures gives { GivesWord generators.old actor result generators.new }
+{
+    match act {
+        Act::Take { link, .. } => Act::Take {
+            link,
+            word: generators.next_word(actor),
+        },
+        Act::Proc(_) | Act::Put { .. } | Act::Route { .. } | Act::Fct { .. } | Act::Pass { .. } =>
+            act,
+    }
+}
+
+/// Makes an event that can happen.
+fn make(network: &mut Network, event: &Event) -> Result<(), Memory>
+    requires { (p : Plan) × IsNetworkOf p (state_of network.old) ×
+        CanHappen p (state_of network.old) event.now }
+    ensures { (p : Plan) → IsNetworkOf p (state_of network.old) →
+        OnOk result (MakesEvent p (state_of network.old) event.now (state_of network.new)) }
+{
+    match network.step(event) {
+        Ok(()) => Ok(()),
+        Err(StepRefused::Memory) => Err(Memory),
+        Err(StepRefused::NotEnabled) => unreachable!(),
     }
 }
 
 impl Simulation {
-    /// An actor makes an event of this kind, if it has one. The answer is whether it had one.
-    fn act_by<K: EventSink>(
-        &mut self,
-        events: &mut K,
-        actor: u8,
-        kind: ActKind,
-        progress: &mut Progress,
-    ) -> Result<bool, Memory>
-        requires few { progress.old.made < 2 ^ 64 - 1 }
-        ensures made { IfOk result (λ had. progress.new.made ≡ counted had progress.old.made) }
-        ensures runs { OnOk result
-            (LeadsOnSoFar K.holds self.old events.old progress.old self.new events.new progress.new) }
-    {
-        let Some(event) = self.network.turn_by(actor, kind, &mut progress.awake)? else {
-            return Ok(false);
-        };
-        events.record(&self.network, event)?;
-        progress.made += 1;
-        Ok(true)
-    }
-
-    /// An event of the actor whose turn it is by some draws: of a kind that they say, or else what the actor makes next. The answer is
-    /// whether it had one.
+    /// Makes an event that is drawn, if there is one. The answer is whether there was.
     fn draw_event<K: EventSink>(
         &mut self,
         events: &mut K,
         draws: &mut Draws,
-        progress: &mut Progress,
     ) -> Result<bool, Memory>
-        requires few { progress.old.made < 2 ^ 64 - 1 }
-        ensures made { IfOk result (λ had. progress.new.made ≡ counted had progress.old.made) }
-        ensures runs { OnOk result
-            (LeadsOnSoFar K.holds self.old events.old progress.old self.new events.new progress.new) }
+        requires few { self.old.made < 2 ^ 64 - 1 }
+        requires is { IsOfPlan (state_of self.old.network) }
+        ensures made { IfOk result (λ had. self.new.made ≡ counted had self.old.made) }
+        ensures kept { OnOk result ((p : Plan) → IsNetworkOf p (state_of self.old.network) →
+            IsNetworkOf p (state_of self.new.network)) }
+        ensures runs { OnOk result ((seed : ℕ) →
+            DrawsOn seed K.holds self.old events.old draws.old.words self.new events.new
+            draws.new.words) }
+        ensures rests { result ≡ Ok false → (p : Plan) →
+            IsNetworkOf p (state_of self.old.network) → IsAtRest p (state_of self.new.network) }
     {
-        let Some(actor) = draws.next_actor(progress.awake) else {
+        let Some(actor) = draws.next_actor(&mut self.network)? else {
             return Ok(false);
         };
-        if let Some(kind) = draws.kind() {
-            if self.act_by(events, actor, kind, progress)? {
-                return Ok(true);
-            }
-        }
-        self.act(events, actor, progress)
+        let drawn = draws.next_act(&self.network, actor)?;
+        let act = with_word(&mut self.generators, actor, drawn);
+        let event = Event { actor, act };
+        make(&mut self.network, &event)?;
+        events.record(&self.network, event)?;
+        self.made += 1;
+        Ok(true)
     }
 
-    /// Tries at an event by some draws. The answer is whether one was made.
-    fn try_events<K: EventSink>(
-        &mut self,
-        events: &mut K,
-        draws: &mut Draws,
-        progress: &mut Progress,
-    ) -> Result<bool, Memory>
-        requires few { progress.old.made < 2 ^ 64 - 1 }
-        ensures made { IfOk result (λ had. progress.new.made ≡ counted had progress.old.made) }
-        ensures runs { OnOk result
-            (LeadsOnSoFar K.holds self.old events.old progress.old self.new events.new progress.new) }
-    {
-        for _ in 0..TRIES {
-            if self.draw_event(events, draws, progress)? {
-                return Ok(true);
-            }
-            draws.pass_on();
-        }
-        Ok(false)
-    }
-
-    /// Events of actors that a generator of this seed draws, until none has an event or there are so many events.
+    /// Events that a generator of this seed draws, from the opening state on, until none can happen or there are so many events. The meter
+    /// notes each.
     pub(crate) fn draw_events<K: EventSink>(
         &mut self,
         events: &mut K,
         limit: u64,
         seed: u32,
+        meter: &Meter,
     ) -> Result<(), Memory>
-        requires { self.old.made ≤ limit }
+        requires few { self.old.made ≤ limit }
+        requires is { IsOfPlan (state_of self.old.network) }
         ensures few { OnOk result (self.new.made ≤ limit) }
-        ensures runs { OnOk result (LeadsOn K.holds self.old events.old self.new events.new) }
+        ensures runs { OnOk result
+            (RunsBy (Schedule.Random seed) K.holds self.old events.old self.new events.new) }
         ensures ends { OnOk result (RunsOut K.holds limit self.old events.old self.new) }
     {
-        let mut draws = Draws::new(seed);
-        let mut progress = self.progress();
-        while progress.made < limit {
-            if !self.try_events(events, &mut draws, &mut progress)?
-                && !self.round(events, limit, &mut progress)?
-            {
-                self.made = progress.made;
+        let mut draws = Draws::new(self.alloc, seed);
+        while self.made < limit {
+            if !self.draw_event(events, &mut draws)? {
                 return Ok(());
             }
+            meter.set(self.made);
         }
-        self.made = progress.made;
         Ok(())
     }
 }

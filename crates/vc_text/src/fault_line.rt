@@ -19,7 +19,7 @@ fn push_thread_line(out: &mut Vec<u8>, why: ThreadFault) -> Result<(), Memory>
 {
     match why {
         ThreadFault::Memory => out.extend_from_slice(b"fault memory")?,
-        ThreadFault::Start => out.extend_from_slice(b"fault thread")?,
+        ThreadFault::Start | ThreadFault::Gate => out.extend_from_slice(b"fault thread")?,
     }
     Ok(())
 }

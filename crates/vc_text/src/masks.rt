@@ -39,21 +39,6 @@ pub(crate) fn only(mask: u64) -> Option<u8>
     lowest(mask)
 }
 
-/// An actor of a mask, which the word draws.
-pub(crate) fn drawn(mask: u64, word: u32) -> Option<u8>
-    ensures { IfSome result (λ actor. actor < 64) }
-{
-    let bits = mask.count_ones();
-    if bits == 0 {
-        return None;
-    }
-    let mut left = mask;
-    for _ in 0..word % bits {
-        left &= left.wrapping_sub(1);
-    }
-    lowest(left)
-}
-
 // The least bit of a mask.
 fn lowest(mask: u64) -> Option<u8>
     ensures { MatchOption result

@@ -18,12 +18,13 @@ use crate::fault::RunFault;
 use crate::one_node::read_together;
 use crate::schedule::Schedule;
 use crate::simulation::Simulation;
-use crate::traffic::{ChannelView, traffic_text, write_channels};
+use crate::traffic::{ChannelView, write_channels};
 use std::alloc::Global;
 use std::io::{Read, Write};
 use vc_core::{Close, Network};
 use vc_packets::Memory;
 use vc_plan::Accepted;
+use vc_threads::Meter;
 
 /// What a run made, and how it ended.
 #[derive(Debug, Drop)]
@@ -62,18 +63,8 @@ pub fn view_of(network: &Network, chan: u16) -> ChannelView<'_>
     }
 }
 
-/// The text of a network's traffic.
-pub(crate) fn traffic_of(alloc: Global, network: &Network, close: Close) -> Result<Vec<u8>, Memory>
-    ensures { (p : Plan) →
-        IsNetworkOf p (state_of network.now) →
-        IfOk result
-        (λ text. text.items ≡ traffic (channels_of p (shown (state_of network.now))) close) }
-{
-    let views = views(alloc, network)?;
-    traffic_text(alloc, views.as_slice(), close)
-}
-
-/// Writes the traffic of a network. The text is made first, so want of memory writes nothing.
+/// Writes the traffic of a network, through a buffer of 4,096 bytes. All memory is taken first, so running out of it writes nothing. If
+/// the writer fails, it has got a prefix of the traffic.
 pub fn write_traffic<W: Write>(
     alloc: Global,
     network: &Network,
@@ -85,26 +76,28 @@ pub fn write_traffic<W: Write>(
         (traffic (channels_of p (shown (state_of network.now))) close) result }
 {
     let views = views(alloc, network)?;
-    write_channels(alloc, views.as_slice(), close, writer)
+    write_channels(views.as_slice(), close, writer)
 }
 
 /// Runs an accepted network event by event, until no event is enabled or there are `limit` events, which go to a sink with the network
-/// after each. The answer is the network after the run, and how it ended. It fails for want of memory alone.
+/// after each. The meter notes from time to time how many there are. The answer is the network after the run, and how it ended. The call
+/// fails only when out of memory.
 pub fn run_into<K: EventSink>(
     alloc: Global,
     accepted: &Accepted,
     events: &mut K,
     limit: u64,
     schedule: Schedule,
+    meter: &Meter,
 ) -> Result<(Network, Close), Memory>
     requires { (s : State) → IsOpening accepted.now s → K.holds events.old accepted.now [] s }
     ensures is { IfOk result (λ r. IsNetworkOf accepted.now (state_of r.0)) }
     ensures run { IfOk result (λ r. (es : List Event) ×
         K.holds events.new accepted.now es (state_of r.0) ×
-        IsRunWithin accepted.now limit es (shown (state_of r.0)) r.1) }
+        IsRunWithin accepted.now schedule limit es (shown (state_of r.0)) r.1) }
 {
     let mut run = Simulation::new(alloc, accepted)?;
-    run.make_events(events, limit, schedule)?;
+    run.make_events(events, limit, schedule, meter)?;
     let close = run.close(limit)?;
     Ok((run.network, close))
 }
@@ -118,10 +111,18 @@ fn run_accepted(
 ) -> Result<(Network, StepReport), Memory>
     ensures is { IfOk result (λ r. IsNetworkOf accepted.now (state_of r.0)) }
     ensures run { IfOk result (λ r.
-        IsRunWithin accepted.now limit (r.1).events (shown (state_of r.0)) (r.1).close) }
+        IsRunWithin accepted.now Schedule.InTurn limit (r.1).events (shown (state_of r.0))
+        (r.1).close) }
 {
     let mut events = EventLog::new(alloc);
-    let (network, close) = run_into(alloc, accepted, &mut events, limit, Schedule::InTurn)?;
+    let (network, close) = run_into(
+        alloc,
+        accepted,
+        &mut events,
+        limit,
+        Schedule::InTurn,
+        &Meter::new(),
+    )?;
     Ok((network, StepReport { events, close }))
 }
 

@@ -1,10 +1,11 @@
 //! In which order a run makes its events.
 
-/// Which actor makes the next event of a run, of those that have one.
+/// Which event a run makes next, of those that can happen.
 #[derive(Clone, Copy, Debug, PartialEq, Eq, Drop)]
 pub enum Schedule {
-    /// Each in turn: the run goes in rounds over the nodes and then the switches.
+    /// Each actor in turn: the run goes in rounds over the nodes and then the switches.
     InTurn,
-    /// Any: a generator of this seed draws it. The same seed draws the same actors.
+    /// Any: the generator of this seed draws an actor of those that have an event, and then one of the actor's events. The same seed draws
+    /// the same events.
     Random(u32),
 }

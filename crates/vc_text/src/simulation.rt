@@ -8,7 +8,8 @@ ghost use Rattle.vc_core.specs.State.{shown, state_of, HasFront, IsNetworkOf};
 ghost use Rattle.vc_core.specs.Private.Turns.{Rests, IsAtRest, GoesOn};
 ghost use Rattle.vc_actor.specs.Turns.{actors};
 ghost use Rattle.vc_core.specs.declared.event.Event.{Event};
-ghost use Rattle.vc_text.specs.Close.{HasEvent, Closes};
+ghost use Rattle.vc_text.specs.Close.{Closes};
+ghost use Rattle.vc_text.specs.Private.Draws.{IsOfPlan, RunsBy};
 ghost use Rattle.vc_text.specs.Private.Simulation.{HasRun, HasTaken, LeadsOn, LeadsOnSoFar, RunsOut, RunsOutSoFar, all_awake, counted};
 
 use crate::event_sink::EventSink;
@@ -19,13 +20,18 @@ use std::alloc::Global;
 use vc_core::{Act, Close, Event, Network};
 use vc_packets::Memory;
 use vc_plan::Accepted;
+use vc_threads::Meter;
 
 /// So many events are made in rounds before it is looked whether one actor alone is awake. Each look costs some thirty instructions.
 const STRETCH: u64 = 1024;
 
+/// The most steps that an actor which alone is awake makes before the meter notes them.
+const STEPS: u64 = 1_048_576;
+
 /// A run under way: its network, the generators of its actors, and how many events were made.
 #[derive(Drop)]
 pub(crate) struct Simulation {
+    pub(crate) alloc: Global,
     pub(crate) network: Network,
     pub(crate) generators: Generators,
     pub(crate) made: u64,
@@ -49,6 +55,7 @@ impl Simulation {
         let network = Network::new(alloc, accepted)?;
         let generators = Generators::new(alloc)?;
         Ok(Simulation {
+            alloc,
             network,
             generators,
             made: 0,
@@ -89,7 +96,7 @@ impl Simulation {
     /// An actor makes the event that it makes next, if it has one: a take from the least link that has a token, else what it does
     /// where every way has room. The answer is whether it had one.
     #[inline(always)]
-    pub(crate) fn act<K: EventSink>(
+    fn act<K: EventSink>(
         &mut self,
         events: &mut K,
         actor: u8,
@@ -121,7 +128,7 @@ impl Simulation {
     /// One round over the actors: each makes at most one event, up to so many events in all. The answer is whether events were made and
     /// more may be: where not, there are so many events, or no actor has one.
     #[inline(always)]
-    pub(crate) fn round<K: EventSink>(
+    fn round<K: EventSink>(
         &mut self,
         events: &mut K,
         limit: u64,
@@ -148,7 +155,7 @@ impl Simulation {
     }
 
     /// How far the run is, where all actors may have an event.
-    pub(crate) fn progress(&self) -> Progress
+    fn progress(&self) -> Progress
         ensures { result ≡ all_awake self.now.made }
     {
         Progress {
@@ -197,12 +204,18 @@ impl Simulation {
             return;
         }
         if let Some(actor) = only(progress.awake) {
-            progress.made += steps_of(&mut self.network, actor, limit - progress.made);
+            let most = (limit - progress.made).min(STEPS);
+            progress.made += steps_of(&mut self.network, actor, most);
         }
     }
 
-    /// Rounds over the actors, until none has an event or there are so many events.
-    fn rounds<K: EventSink>(&mut self, events: &mut K, limit: u64) -> Result<(), Memory>
+    /// Rounds over the actors, until none has an event or there are so many events. The meter notes each stretch.
+    fn rounds<K: EventSink>(
+        &mut self,
+        events: &mut K,
+        limit: u64,
+        meter: &Meter,
+    ) -> Result<(), Memory>
         requires { self.old.made ≤ limit }
         ensures few { OnOk result (self.new.made ≤ limit) }
         ensures runs { OnOk result (LeadsOn K.holds self.old events.old self.new events.new) }
@@ -211,26 +224,30 @@ impl Simulation {
         let mut progress = self.progress();
         while self.stretch(events, limit, &mut progress)? {
             self.make_steps(events, limit, &mut progress);
+            meter.set(progress.made);
         }
         self.made = progress.made;
         Ok(())
     }
 
-    /// Events in the order of a schedule, until no actor has an event or there are so many events.
+    /// Events in the order of a schedule, from the opening state on, until no actor has an event or there are so many events.
     pub(crate) fn make_events<K: EventSink>(
         &mut self,
         events: &mut K,
         limit: u64,
         schedule: Schedule,
+        meter: &Meter,
     ) -> Result<(), Memory>
-        requires { self.old.made ≤ limit }
+        requires few { self.old.made ≤ limit }
+        requires is { IsOfPlan (state_of self.old.network) }
         ensures few { OnOk result (self.new.made ≤ limit) }
-        ensures runs { OnOk result (LeadsOn K.holds self.old events.old self.new events.new) }
+        ensures runs { OnOk result
+            (RunsBy schedule K.holds self.old events.old self.new events.new) }
         ensures ends { OnOk result (RunsOut K.holds limit self.old events.old self.new) }
     {
         match schedule {
-            Schedule::InTurn => self.rounds(events, limit),
-            Schedule::Random(seed) => self.draw_events(events, limit, seed),
+            Schedule::InTurn => self.rounds(events, limit, meter),
+            Schedule::Random(seed) => self.draw_events(events, limit, seed, meter),
         }
     }
 
@@ -265,18 +282,6 @@ fn steps_of(network: &mut Network, actor: u8, most: u64) -> u64
     network.make_steps(actor, most)
 }
 
-/// Whether an actor has an event.
-fn has_event(network: &mut Network, actor: u8) -> Result<bool, Memory>
-    ensures has { (p : Plan) → IsNetworkOf p (state_of network.old) → actor < actors p →
-        IfOk result (HasEvent p (state_of network.old) actor) }
-    ensures same { state_of network.new ≡ state_of network.old }
-{
-    if network.link_to_take(actor).is_some() {
-        return Ok(true);
-    }
-    Ok(network.next(actor)?.is_some())
-}
-
 /// Whether some actor has an event.
 pub(crate) fn goes_on(network: &mut Network) -> Result<bool, Memory>
     ensures goes_on { (p : Plan) → IsNetworkOf p (state_of network.old) →
@@ -284,7 +289,7 @@ pub(crate) fn goes_on(network: &mut Network) -> Result<bool, Memory>
     ensures same { state_of network.new ≡ state_of network.old }
 {
     for actor in 0..network.actors() {
-        if has_event(network, actor)? {
+        if network.has_event(actor)? {
             return Ok(true);
         }
     }

@@ -13,14 +13,7 @@ use std::io::{Read, Write};
 use std::sync::Wait;
 use std::thread::Threads;
 use vc_plan::Accepted;
-use vc_threads::{EndGate, Ending, Report, run_threads, run_threads_unlogged};
-
-/// The gate that closes once the process of each node has ended; a plan has at most 32 nodes.
-pub fn gate_of(accepted: &Accepted) -> EndGate
-    ensures { result ≡ length accepted.now.nodes }
-{
-    EndGate::new(accepted.plan().nodes.len().min(64) as u8)
-}
+use vc_threads::{Ending, Meter, Report, run_until_ended, run_until_ended_unlogged};
 
 /// Reads a network file, runs the network with a thread for each node and each switch, and writes its traffic. Each thread makes at
 /// most so many turns, and ends earlier once the process of every node has ended. The words of an actor's takes are those of the
@@ -37,8 +30,7 @@ pub fn run_net<T: Threads + Wait + Sync, R: Read, W: Write>(
         (W.contents writer.old) (W.contents writer.new) result }
 {
     let accepted = read_accepted(alloc, reader)?;
-    let gate = gate_of(&accepted);
-    let report = run_threads(rt, alloc, &accepted, &gate, turns, seed)?;
+    let report = run_until_ended(rt, alloc, &accepted, turns, seed, &Meter::new())?;
     write_traffic(alloc, &report.state, report.close, writer)?;
     Ok(report)
 }
@@ -52,13 +44,20 @@ pub fn run_net_unlogged<T: Threads + Wait + Sync, R: Read, W: Write>(
     reader: &mut R,
     writer: &mut W,
     options: ThreadOptions,
+    meter: &Meter,
 ) -> Result<Ending, RunFault>
     ensures { WritesThreads (IsTail options.is_why) options.turns options.seed
         (R.remaining reader.old) (W.contents writer.old) (W.contents writer.new) result }
 {
     let accepted = read_accepted(alloc, reader)?;
-    let gate = gate_of(&accepted);
-    let ending = run_threads_unlogged(rt, alloc, &accepted, &gate, options.turns, options.seed)?;
+    let ending = run_until_ended_unlogged(
+        rt,
+        alloc,
+        &accepted,
+        options.turns,
+        options.seed,
+        meter,
+    )?;
     write_tail(
         alloc,
         accepted.plan(),

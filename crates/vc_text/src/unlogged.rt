@@ -18,6 +18,7 @@ use std::io::{Read, Write};
 use vc_core::{Close, Network};
 use vc_packets::Memory;
 use vc_plan::Accepted;
+use vc_threads::Meter;
 
 /// Runs an accepted network event by event, until no event is enabled or there are `limit` events, and keeps none: its memory does not
 /// grow with their number. The answer is the network after it, and how the run ended. It fails for want of memory alone.
@@ -26,12 +27,13 @@ pub fn run_unlogged(
     accepted: &Accepted,
     limit: u64,
     schedule: Schedule,
+    meter: &Meter,
 ) -> Result<(Network, Close), Memory>
     ensures is { IfOk result (λ r. IsNetworkOf accepted.now (state_of r.0)) }
     ensures run { IfOk result (λ r. (events : List Event) ×
-        IsRunWithin accepted.now limit events (shown (state_of r.0)) r.1) }
+        IsRunWithin accepted.now schedule limit events (shown (state_of r.0)) r.1) }
 {
-    run_into(alloc, accepted, &mut Unlogged, limit, schedule)
+    run_into(alloc, accepted, &mut Unlogged, limit, schedule, meter)
 }
 
 /// Runs an accepted network so, and writes its traffic.
@@ -40,11 +42,12 @@ fn run_plan<W: Write>(
     accepted: &Accepted,
     writer: &mut W,
     options: StepOptions,
+    meter: &Meter,
 ) -> Result<Close, RunFault>
     ensures { WritesRun (IsTail options.is_why) accepted.now
-        (W.contents writer.old) (W.contents writer.new) options.limit result }
+        (W.contents writer.old) (W.contents writer.new) options.schedule options.limit result }
 {
-    let (network, close) = run_unlogged(alloc, accepted, options.limit, options.schedule)?;
+    let (network, close) = run_unlogged(alloc, accepted, options.limit, options.schedule, meter)?;
     write_tail(
         alloc,
         accepted.plan(),
@@ -63,11 +66,12 @@ pub fn run_step_unlogged<R: Read, W: Write>(
     reader: &mut R,
     writer: &mut W,
     options: StepOptions,
+    meter: &Meter,
 ) -> Result<Close, RunFault>
     ensures { WritesRunBy (IsTail options.is_why)
         (ReadsAs options.is_together (R.remaining reader.old))
-        (W.contents writer.old) (W.contents writer.new) options.limit result }
+        (W.contents writer.old) (W.contents writer.new) options.schedule options.limit result }
 {
     let accepted = read_as(alloc, reader, options.is_together)?;
-    run_plan(alloc, &accepted, writer, options)
+    run_plan(alloc, &accepted, writer, options, meter)
 }

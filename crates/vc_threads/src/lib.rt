@@ -6,12 +6,14 @@
 //! workers, each way of the plan being a ring between two of them (`specs/Rings`), joins them, and takes what is left off each ring: what
 //! was taken off each way, and then what is left there, is what was put on it (`specs/Order`). So for every schedule the list is a run of the
 //! network, which leads to the state that is put together from the actors and from what is left in the rings (`specs/Threads`).
+//! [`run_until_ended`] is the same with a gate that closes once every process has ended.
 #![tactic(auto)]
 
 mod gate;
 mod jobs;
 mod link;
 mod merged_runs;
+mod meter;
 mod order;
 mod outs;
 mod pause;
@@ -20,15 +22,18 @@ mod run;
 mod spawn;
 mod stamp;
 mod threads;
+mod until_ended;
 mod work;
 mod worker_state;
 
 pub use gate::{EndGate, Gate};
 pub use link::{Ends, In, LinkRule, Out, Stamped};
 pub use merged_runs::merge;
+pub use meter::Meter;
 pub use report::{Ending, Report};
 pub use run::{ActorRun, Stop};
 pub use spawn::ThreadFault;
 pub use stamp::next_stamp;
 pub use threads::{run_threads, run_threads_unlogged};
+pub use until_ended::{run_until_ended, run_until_ended_unlogged};
 pub use work::worker;

@@ -41,6 +41,9 @@ pub enum ThreadFault {
     /// A thread was not started.
     #[error("a thread was not started")]
     Start,
+    /// A worker ended by its gate before it should have.
+    #[error("a worker was refused a turn before every process had ended")]
+    Gate,
 }
 
 /// A job, as it is given to a thread.

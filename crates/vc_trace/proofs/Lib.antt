@@ -1,9 +1,9 @@
 pub mod DistinctNames
+pub mod EscapedLines
 pub mod EventTexts
 pub mod Found
 pub mod LineWords
 pub mod NameWords
 pub mod Replays
 pub mod RunTexts
-pub mod TextWrites
 pub mod Verbs

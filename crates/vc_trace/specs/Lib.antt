@@ -1,3 +1,4 @@
+pub mod Escapes
 pub mod EventOf
 pub mod EventText
 pub mod Lines

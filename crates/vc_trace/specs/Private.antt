@@ -3,7 +3,6 @@ pub mod EventOf
 pub mod EventReader
 pub mod EventText
 pub mod Names
-pub mod Pieces
 pub mod Replay
 pub mod Verbs
 pub mod Words

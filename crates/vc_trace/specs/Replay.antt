@@ -15,11 +15,12 @@ use Rattle.vc_text.specs.Tail.{IsTail}
 use Rattle.vc_waits.specs.Waits.{newline}
 use Rattle.vc_text.specs.declared.fault.RunFault.{RunFault}
 use Rattle.vc_text.specs.declared.fault.RunFault.TheVariants.{Write}
+use Rattle.vc_trace.specs.Escapes.{escaped}
 use Rattle.vc_trace.specs.EventOf.{IsEventOf}
 use Rattle.vc_trace.specs.EventText.{event_line, events_text}
 use Rattle.vc_trace.specs.Lines.{IsLineBefore}
 use Rattle.vc_trace.specs.declared.replayed.Replayed.{Replayed}
-use Rattle.vc_trace.specs.declared.replayed.Replayed.TheVariants.{Ended, Refused}
+use Rattle.vc_trace.specs.declared.replayed.Replayed.TheVariants.{Ended, Refused, NoEvents}
 
 -- nothing is left of the text, or it begins as a network's traffic does
 abbrev pub EndsEvents : List ℕ → Type 0
@@ -53,9 +54,9 @@ pub record IsReplay (p : Plan) (events : List Event) (x : NetworkState) (close :
 abbrev pub ended_line : List ℕ → List ℕ
 ended_line line = cond (ends_with_byte 10 line) line (line ++ newline)
 
--- the number of a line that is refused, and the line, ended
+-- the number of a refused line, and the line itself, ended and escaped
 abbrev pub refused_text : ℕ → List ℕ → List ℕ
-refused_text number line = codes "refused event " ++ decimal number ++ newline ++ ended_line line
+refused_text number line = codes "refused event " ++ decimal number ++ newline ++ escaped (ended_line line)
 
 -- the text of the state that the events of a text lead to, or of the line of it that is refused there
 abbrev pub IsReplayText : (why : Bool) → Option (List ℕ) → Plan → Replayed → List ℕ → Type 0
@@ -64,6 +65,7 @@ IsReplayText why known p (Ended close) text =
 IsReplayText why known p Refused text =
     (events : List Event) × (x : NetworkState) × RunsTo p events x
     × ((line : List ℕ) × RefusesBehind known p events x line × (text ≡ refused_text (length events + 1) line))
+IsReplayText why known p NoEvents text = ⊥
 
 -- the text was written, or a front of it before a fault of the writer; else nothing was
 abbrev pub ReplaysPlan : (why : Bool) → Option (List ℕ) → Plan → Option (List ℕ) → Option (List ℕ) → Result Replayed RunFault → Type 0
@@ -81,8 +83,12 @@ NamesDiffer (Some text) p = HasDistinctNames p
 abbrev pub ReadsNamed : Option (List ℕ) → Plan → Type 0
 ReadsNamed network p = ReadsAccepted network (Ok p) × NamesDiffer network p
 
--- the reader's network makes the events of the other reader's text
-abbrev pub Replays : (why : Bool) → Option (List ℕ) → Option (List ℕ) → Option (List ℕ) → Option (List ℕ) → Result Replayed RunFault → Type 0
-Replays why network known old new (Ok answer) = (p : Plan) × ReadsNamed network p × ReplaysPlan why known p old new (Ok answer)
-Replays why network known old new (Err Write) = (p : Plan) × ReadsNamed network p × ReplaysPlan why known p old new (Err Write)
-Replays why network known old new (Err fault) = ReadsAccepted network (Err fault) × (new ≡ old)
+-- The reader's network makes the events of a file. `Holds` says which bytes the file may have, and `Fails` whether opening it may fail.
+abbrev pub Replays : (why : Bool) → Option (List ℕ) → (Option (List ℕ) → Type 0) → Type 0 → Option (List ℕ) → Option (List ℕ)
+    → Result Replayed RunFault → Type 0
+Replays why network Holds Fails old new (Ok NoEvents) = (p : Plan) × ReadsNamed network p × Fails × (new ≡ old)
+Replays why network Holds Fails old new (Ok answer) =
+    (p : Plan) × ReadsNamed network p × ((known : Option (List ℕ)) × Holds known × ReplaysPlan why known p old new (Ok answer))
+Replays why network Holds Fails old new (Err Write) =
+    (p : Plan) × ReadsNamed network p × ((known : Option (List ℕ)) × Holds known × ReplaysPlan why known p old new (Err Write))
+Replays why network Holds Fails old new (Err fault) = ReadsAccepted network (Err fault) × (new ≡ old)

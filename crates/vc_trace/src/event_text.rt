@@ -4,15 +4,15 @@ ghost use Rattle.vc_plan.specs.Names.{channel_name};
 ghost use Rattle.vc_trace.specs.EventText.{act_words, event_line, guard_word as word_of_guard, move_words, spaced};
 ghost use Rattle.vc_trace.specs.Private.EventText.{site_text, spaced_word, word_text, words_text};
 ghost use Rattle.vc_text.specs.Streams.{AppendsFront};
-ghost use Rattle.vc_trace.specs.Private.Pieces.{Passes};
+ghost use Rattle.vc_text.specs.Pieces.{Passes};
 
-use crate::pieces::{Piece, WriteFailed, put};
 use crate::word::Word;
 use itoa::Buffer;
 use std::io::Write;
 use vc_core::{Act, Event};
 use vc_occam::Move;
 use vc_plan::Plan;
+use vc_text::{Piece, WriteFailed, put};
 
 fn number<'a>(n: u16) -> Word<'a>
     ensures { word_text result ≡ decimal n }

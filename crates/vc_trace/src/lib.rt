@@ -5,10 +5,13 @@
 //! 4,096 bytes, so it takes no memory of its own.
 //!
 //! A replay reads such lines, makes their events, and writes the traffic of the state that they lead to, or the first line that is not
-//! that of an event which can happen (`specs/Replay`). What it reads from a line counts only where the line is exactly the one that the
-//! trace writes for it. No line of an event that can happen is refused, in a network whose names differ, as those of files do.
+//! that of an event which can happen (`specs/Replay`), without its control characters (`specs/Escapes`). What it reads from a line counts
+//! only where the line is exactly the one that the trace writes for it. No line of an event that can happen is refused, in a network whose
+//! names differ, as those of files do.
 #![tactic(auto)]
 
+mod escape;
+mod event_files;
 mod event_line;
 mod event_reader;
 mod event_text;
@@ -19,7 +22,6 @@ mod move_verb;
 mod names;
 mod number;
 mod output;
-mod pieces;
 mod refused_line;
 mod replay;
 mod replayed;
@@ -29,6 +31,7 @@ mod verb;
 mod word;
 mod words;
 
+pub use event_files::{EventFile, EventFiles};
 pub use replay::run_replay;
 pub use replayed::Replayed;
 pub use step_run::trace_step;

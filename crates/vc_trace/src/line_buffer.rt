@@ -4,11 +4,11 @@ ghost use Rattle.std.specs.Str.{bytes_eq};
 ghost use Rattle.vc_trace.specs.EventText.{event_line};
 
 use crate::event_text::put_event;
-use crate::pieces::{Piece, WriteFailed, flush};
 use std::alloc::Global;
 use vc_core::Event;
 use vc_packets::Memory;
 use vc_plan::Plan;
+use vc_text::{Piece, WriteFailed, flush};
 
 /// Room for the line of an event.
 #[derive(Drop)]

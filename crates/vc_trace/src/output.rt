@@ -1,16 +1,16 @@
 //! Writing the events of a run and its traffic.
 ghost use Rattle.std.specs.Prelude.{◌++◌, OnOk, OnErr};
 ghost use Rattle.std.specs.Io.KnownBytes.{Appends};
+ghost use Rattle.vc_text.specs.Pieces.{Passes};
 ghost use Rattle.vc_text.specs.Streams.{AppendsFront, Writes};
+ghost use Rattle.vc_text.specs.Tail.{tail_text};
 ghost use Rattle.vc_trace.specs.EventText.{events_text};
-ghost use Rattle.vc_trace.specs.Private.Pieces.{Passes};
 
 use crate::event_text::put_event;
-use crate::pieces::{Piece, WriteFailed, flush, put};
 use std::io::Write;
 use vc_core::Event;
 use vc_plan::Plan;
-use vc_text::{EventLog, RunFault};
+use vc_text::{EventLog, Piece, RunFault, Tail, WriteFailed};
 
 // The lines of the events of a log.
 fn put_log<W: Write>(
@@ -48,33 +48,21 @@ fn put_steps<W: Write>(
     Ok(())
 }
 
-// A text, and then nothing is left in the buffer.
-#[tactic(auto, using(crate::proofs::TextWrites::passes_all, crate::proofs::TextWrites::passes_front, crate::proofs::TextWrites::front_longer, crate::proofs::TextWrites::front_none))]
-fn put_last<W: Write>(piece: &mut Piece, writer: &mut W, text: &[u8]) -> Result<(), WriteFailed>
-    ensures ok { OnOk result (Appends (W.contents writer.old)
-        (W.contents writer.new) (piece.old.items ++ text.now)) }
-    ensures err { OnErr result (AppendsFront (W.contents writer.old)
-        (W.contents writer.new) (piece.old.items ++ text.now)) }
-{
-    put(piece, writer, text)?;
-    flush(piece, writer)
-}
-
 // The lines of the events of a log, and then the traffic.
 fn pass_log<W: Write>(
     writer: &mut W,
     plan: &Plan,
     events: &EventLog,
-    traffic: &[u8],
+    tail: &Tail<'_>,
 ) -> Result<(), WriteFailed>
     ensures ok { OnOk result (Appends (W.contents writer.old) (W.contents writer.new)
-        (events_text plan.now events.now ++ traffic.now)) }
+        (events_text plan.now events.now ++ tail_text tail.now)) }
     ensures err { OnErr result (AppendsFront (W.contents writer.old) (W.contents writer.new)
-        (events_text plan.now events.now ++ traffic.now)) }
+        (events_text plan.now events.now ++ tail_text tail.now)) }
 {
     let mut piece = Piece::new();
     put_log(&mut piece, writer, plan, events)?;
-    put_last(&mut piece, writer, traffic)
+    tail.put_last(&mut piece, writer)
 }
 
 // The lines of these events, and then the traffic.
@@ -82,16 +70,16 @@ fn pass_steps<W: Write>(
     writer: &mut W,
     plan: &Plan,
     steps: &[Event],
-    traffic: &[u8],
+    tail: &Tail<'_>,
 ) -> Result<(), WriteFailed>
     ensures ok { OnOk result (Appends (W.contents writer.old) (W.contents writer.new)
-        (events_text plan.now steps.now ++ traffic.now)) }
+        (events_text plan.now steps.now ++ tail_text tail.now)) }
     ensures err { OnErr result (AppendsFront (W.contents writer.old) (W.contents writer.new)
-        (events_text plan.now steps.now ++ traffic.now)) }
+        (events_text plan.now steps.now ++ tail_text tail.now)) }
 {
     let mut piece = Piece::new();
     put_steps(&mut piece, writer, plan, steps)?;
-    put_last(&mut piece, writer, traffic)
+    tail.put_last(&mut piece, writer)
 }
 
 /// Writes the lines of the events of a log, and then the traffic.
@@ -99,12 +87,12 @@ pub(crate) fn write_log<W: Write>(
     writer: &mut W,
     plan: &Plan,
     events: &EventLog,
-    traffic: &[u8],
+    tail: &Tail<'_>,
 ) -> Result<(), RunFault>
     ensures { Writes (W.contents writer.old) (W.contents writer.new)
-        (events_text plan.now events.now ++ traffic.now) result }
+        (events_text plan.now events.now ++ tail_text tail.now) result }
 {
-    match pass_log(writer, plan, events, traffic) {
+    match pass_log(writer, plan, events, tail) {
         Ok(()) => Ok(()),
         Err(WriteFailed) => Err(RunFault::Write),
     }
@@ -115,12 +103,12 @@ pub(crate) fn write_steps<W: Write>(
     writer: &mut W,
     plan: &Plan,
     steps: &[Event],
-    traffic: &[u8],
+    tail: &Tail<'_>,
 ) -> Result<(), RunFault>
     ensures { Writes (W.contents writer.old) (W.contents writer.new)
-        (events_text plan.now steps.now ++ traffic.now) result }
+        (events_text plan.now steps.now ++ tail_text tail.now) result }
 {
-    match pass_steps(writer, plan, steps, traffic) {
+    match pass_steps(writer, plan, steps, tail) {
         Ok(()) => Ok(()),
         Err(WriteFailed) => Err(RunFault::Write),
     }

@@ -8,4 +8,6 @@ pub enum Replayed {
     Ended(Close),
     /// A line was refused.
     Refused,
+    /// The file of events can't be opened.
+    NoEvents,
 }

@@ -8,18 +8,20 @@ use std::alloc::Global;
 use std::io::{Read, Write};
 use vc_core::Close;
 use vc_plan::Accepted;
-use vc_text::{EventLog, RunFault, StepOptions, read_as, run_into, tail_of};
+use vc_text::{EventLog, RunFault, StepOptions, Tail, read_as, run_into};
+use vc_threads::Meter;
 
-/// Runs an accepted network event by event, and writes its events and its traffic. The traffic's text is made first, so want of memory
-/// writes nothing.
+/// Runs an accepted network event by event, and writes its events and its traffic. All memory is taken first, so running
+/// out of it writes nothing.
 fn trace_plan<W: Write>(
     alloc: Global,
     accepted: &Accepted,
     writer: &mut W,
     options: StepOptions,
+    meter: &Meter,
 ) -> Result<Close, RunFault>
     ensures { WritesRun (IsTracedText options.is_why) accepted.now
-        (W.contents writer.old) (W.contents writer.new) options.limit result }
+        (W.contents writer.old) (W.contents writer.new) options.schedule options.limit result }
 {
     let plan = accepted.plan();
     let mut events = EventLog::new(alloc);
@@ -29,9 +31,10 @@ fn trace_plan<W: Write>(
         &mut events,
         options.limit,
         options.schedule,
+        meter,
     )?;
-    let tail = tail_of(alloc, plan, &network, close, options.is_why)?;
-    write_log(writer, plan, &events, tail.as_slice())?;
+    let tail = Tail::new(alloc, plan, &network, close, options.is_why)?;
+    write_log(writer, plan, &events, &tail)?;
     Ok(close)
 }
 
@@ -43,11 +46,12 @@ pub fn trace_step<R: Read, W: Write>(
     reader: &mut R,
     writer: &mut W,
     options: StepOptions,
+    meter: &Meter,
 ) -> Result<Close, RunFault>
     ensures { WritesRunBy (IsTracedText options.is_why)
         (ReadsAs options.is_together (R.remaining reader.old))
-        (W.contents writer.old) (W.contents writer.new) options.limit result }
+        (W.contents writer.old) (W.contents writer.new) options.schedule options.limit result }
 {
     let accepted = read_as(alloc, reader, options.is_together)?;
-    trace_plan(alloc, &accepted, writer, options)
+    trace_plan(alloc, &accepted, writer, options, meter)
 }

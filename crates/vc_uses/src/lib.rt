@@ -3,12 +3,14 @@
 
 mod labelling;
 mod line;
+mod rest;
 mod scheduler;
 mod threads;
 mod traffic;
 
 pub use labelling::is_well_labelled;
 pub use line::over_a_line;
+pub use rest::close_of_run;
 pub use scheduler::try_event;
-pub use threads::{OpenGate, left_by_threads, stops_behind_an_open_gate};
+pub use threads::{OpenGate, left_by_threads, stops_behind_an_open_gate, stops_until_ended};
 pub use traffic::{to_come, under_way};

@@ -1,18 +1,19 @@
 -- The command line: what `clap` is told of it, and what its matches ask for.
-use Rattle.std.specs.Prelude.{◌≡◌, ◌==◌, ◌&&◌, ℕ, Bool, true, false, Option, Some, None, List, [], ◌∷◌, codes, if◌then◌else◌, nat_lt, nat_le, length, option_and_then, option_map, unwrap_or, pos, ⊤, ◌≢◌, ◌≤◌}
+use Rattle.std.specs.Prelude.{◌≡◌, ◌==◌, ◌&&◌, ℕ, Bool, true, false, Option, Some, None, List, [], ◌∷◌, codes, if◌then◌else◌, nat_lt, nat_le, length, option_and_then, option_map, unwrap_or, is_some, pos, ⊤, ◌≢◌, ◌≤◌}
 use Rattle.std.specs.List.{list_all}
 use Rattle.std.specs.Option.{option_map_or}
 use Rattle.std.specs.Char.{digit_value}
 use Rattle.std.specs.Str.{bytes_eq}
 use Rattle.std.specs.Str.Parse.{digits_value, without_leading_plus}
-use Rattle.clap.specs.Walk.{Row, Rule, Text, one_of}
-use Rattle.clap.specs.Simple.{App, Shape, subcommand_of, new_app, new_rule, new_shape, on_top, with_subcommand}
+use Rattle.clap.specs.Walk.{Row, Rule, Text, first_of, one_of}
+use Rattle.clap.specs.Simple.{App, Shape, subcommand_of, subcommand_rows_of, new_app, new_rule, new_shape, on_top, with_subcommand}
 use Rattle.clap.specs.Kinds.{IsAmong, Kinds}
 use Rattle.clap.specs.Faults.{fault_of}
 use Rattle.clap.specs.declared.builder.action.ArgAction.TheVariants.{SetTrue}
 use Rattle.clap.specs.declared.builder.value_parser.ValueParser.{ValueParser}
 use Rattle.clap.specs.declared.builder.value_parser.ValueParser.TheVariants.{Signed, Unsigned}
 use Rattle.clap.specs.declared.error.kind.ErrorKind.{ErrorKind}
+use Rattle.clap.specs.declared.parser.matches.ArgMatches.{ArgMatches}
 use Rattle.clap.specs.declared.error.kind.ErrorKind.TheVariants.{DisplayHelp, DisplayVersion, OutOfMemory}
 use Rattle.vc_text.specs.declared.schedule.Schedule.{Schedule}
 use Rattle.vc_text.specs.declared.schedule.Schedule.TheVariants.{InTurn, Random}
@@ -22,9 +23,11 @@ use Rattle.vc_stats.specs.declared.form.Form.TheVariants.{Lines, Json as FormJso
 use Rattle.vc_words.specs.declared.account.Account.{Account}
 use Rattle.vc_words.specs.declared.account.Account.TheVariants.{Traffic, Events, Counts, Json}
 use Rattle.vc_words.specs.declared.line.Line.{Line}
-use Rattle.vc_words.specs.declared.line.Line.TheVariants.{Check, Explain, Deadlock, Draw, Step, Run, Replay}
+use Rattle.vc_words.specs.declared.line.Line.TheVariants.{Check, Explain, Deadlock, Label, Draw, Step, Run, Replay}
 use Rattle.vc_words.specs.declared.line_fault.LineFault.{LineFault}
 use Rattle.vc_words.specs.declared.line_fault.LineFault.TheVariants.{Bad, Memory}
+use Rattle.vc_words.specs.declared.progress.Progress.{Progress}
+use Rattle.vc_words.specs.declared.progress.Unit.TheVariants.{Events as EventsMade, Turns as TurnsMade}
 
 -- an option `--name N`, which numbers it takes, and what it is where it is not written
 abbrev pub option_of : Text → ValueParser → Text → Rule
@@ -70,6 +73,12 @@ stats_flag = flag_of (codes "stats")
 abbrev pub json_flag : Rule
 json_flag = flag_of (codes "json")
 
+abbrev pub progress_flag : Rule
+progress_flag = flag_of (codes "progress")
+
+abbrev pub no_progress_flag : Rule
+no_progress_flag = flag_of (codes "no-progress")
+
 abbrev pub turns_option : Rule
 turns_option = option_of (codes "turns") (Unsigned 0 1000000000) (codes "10000000")
 
@@ -86,23 +95,34 @@ explain_shape = new_shape (codes "explain")
 abbrev pub deadlock_shape : Shape
 deadlock_shape = new_shape (codes "deadlock")
 
+abbrev pub label_shape : Shape
+label_shape = new_shape (codes "label")
+
 abbrev pub draw_shape : Shape
 draw_shape = record (new_shape (codes "draw")) { rules = after_option ∷ [] }
 
+-- whether the progress of a run is shown
+abbrev pub progress_flags : List Rule
+progress_flags = progress_flag ∷ no_progress_flag ∷ []
+
+-- and what is printed of it
+abbrev pub run_flags : List Rule
+run_flags = why_flag ∷ trace_flag ∷ stats_flag ∷ json_flag ∷ progress_flags
+
 abbrev pub step_shape : Shape
-step_shape = record (new_shape (codes "step")) { rules = limit_option ∷ schedule_option ∷ together_flag ∷ why_flag ∷ trace_flag ∷ stats_flag ∷ json_flag ∷ [] }
+step_shape = record (new_shape (codes "step")) { rules = limit_option ∷ schedule_option ∷ together_flag ∷ run_flags }
 
 abbrev pub run_shape : Shape
-run_shape = record (new_shape (codes "run")) { rules = turns_option ∷ seed_option ∷ why_flag ∷ trace_flag ∷ stats_flag ∷ json_flag ∷ [] }
+run_shape = record (new_shape (codes "run")) { rules = turns_option ∷ seed_option ∷ run_flags }
 
 abbrev pub replay_shape : Shape
-replay_shape = record (new_shape (codes "replay")) { rules = events_option ∷ why_flag ∷ [] }
+replay_shape = record (new_shape (codes "replay")) { rules = events_option ∷ why_flag ∷ progress_flags }
 
 abbrev pub vcnet : App
 vcnet =
-    with_subcommand (with_subcommand (with_subcommand (with_subcommand (with_subcommand (with_subcommand (with_subcommand
+    with_subcommand (with_subcommand (with_subcommand (with_subcommand (with_subcommand (with_subcommand (with_subcommand (with_subcommand
     (on_top (λ s. record s { subcommand_required = true; has_version = true }) (new_app (codes "vcnet")))
-    check_shape) explain_shape) deadlock_shape) draw_shape) step_shape) run_shape) replay_shape
+    check_shape) explain_shape) deadlock_shape) draw_shape) step_shape) run_shape) replay_shape) label_shape
 
 -- the number that a text is, where it is one of at most `most`
 abbrev pub number_in : ℕ → Text → Option ℕ
@@ -158,7 +178,7 @@ line_of (name, rows) =
     else (if bytes_eq name (codes "replay") then Replay (has_flag (codes "why") rows)
     else (if bytes_eq name (codes "draw") then Draw (number_at (codes "after") 1000000000 rows)
     else (if bytes_eq name (codes "explain") then Explain
-    else (if bytes_eq name (codes "deadlock") then Deadlock else Check)))))
+    else (if bytes_eq name (codes "deadlock") then Deadlock else (if bytes_eq name (codes "label") then Label else Check))))))
 
 -- the kinds of fault that the words have: none where they are a command line
 abbrev pub faults : List Text → Kinds
@@ -167,6 +187,32 @@ faults = fault_of vcnet
 -- the words are a command line, and ask for this
 abbrev pub Asks : List Text → Line → Type 0
 Asks words line = (faults words ≡ []) × (option_map line_of (subcommand_of vcnet words) ≡ Some line)
+
+-- they name this file of events
+abbrev pub NamesEvents : List Text → Text → Type 0
+NamesEvents words name = option_and_then (λ found. first_of (codes "events") found.1) (subcommand_of vcnet words) ≡ Some name
+
+-- what is counted of a run while it goes on, and its limit
+abbrev pub counted_of : Line → Option Progress
+counted_of (Step options account) = Some (record { unit = EventsMade; most = Some options.limit })
+counted_of (Run options account) = Some (record { unit = TurnsMade; most = Some options.turns })
+counted_of (Replay is_why) = Some (record { unit = EventsMade; most = None })
+counted_of line = None
+
+-- whether progress is shown: never with --no-progress, and else with --progress and on a terminal
+abbrev pub shows_progress : (is_terminal : Bool) → List Row → Bool
+shows_progress is_terminal rows =
+    if has_flag (codes "no-progress") rows then false else (if is_terminal then true else has_flag (codes "progress") rows)
+
+-- what is shown of the run that the words ask for
+abbrev pub progress_of : (is_terminal : Bool) → List Text → Option Progress
+progress_of is_terminal words =
+    option_and_then (λ found. if shows_progress is_terminal found.1 then counted_of (line_of found) else None) (subcommand_of vcnet words)
+
+-- `clap` finds no fault in the words, and these are its matches
+abbrev pub HasFound : List Text → ArgMatches → Type 0
+HasFound words m =
+    (faults words ≡ []) × (subcommand_rows_of m ≡ subcommand_of vcnet words) × (is_some (subcommand_rows_of m) ≡ true)
 
 -- a request for help or for the version has status 0, and any other fault 5
 abbrev pub status_of_kind : ErrorKind → ℕ
@@ -189,6 +235,7 @@ abbrev pub IsInRange : Line → Type 0
 IsInRange Check = ⊤
 IsInRange Explain = ⊤
 IsInRange Deadlock = ⊤
+IsInRange Label = ⊤
 IsInRange (Draw None) = ⊤
 IsInRange (Draw (Some after)) = after ≤ 1000000000
 IsInRange (Step options account) = options.limit ≤ 1000000000

@@ -8,7 +8,7 @@ use Rattle.vc_text.specs.declared.thread_options.ThreadOptions.{ThreadOptions}
 use Rattle.vc_words.specs.CommandLine.{Asks, faults}
 use Rattle.vc_stats.specs.declared.form.Form.TheVariants.{Lines}
 use Rattle.vc_words.specs.declared.account.Account.TheVariants.{Traffic, Events, Counts}
-use Rattle.vc_words.specs.declared.line.Line.TheVariants.{Check, Explain, Deadlock, Draw, Step, Run, Replay}
+use Rattle.vc_words.specs.declared.line.Line.TheVariants.{Check, Explain, Deadlock, Label, Draw, Step, Run, Replay}
 
 -- the program's name, and then the other words
 abbrev pub line : List Text → List Text
@@ -25,6 +25,7 @@ pub record LinesAreRead : Type 0 where
   pub check : Asks (line (codes "check" ∷ [])) Check
   pub explain : Asks (line (codes "explain" ∷ [])) Explain
   pub deadlock : Asks (line (codes "deadlock" ∷ [])) Deadlock
+  pub label : Asks (line (codes "label" ∷ [])) Label
   pub draw : Asks (line (codes "draw" ∷ [])) (Draw None)
   pub after : Asks (line (codes "draw" ∷ codes "--after" ∷ codes "9" ∷ [])) (Draw (Some 9))
   pub step : Asks (line (codes "step" ∷ [])) (Step usual Traffic)

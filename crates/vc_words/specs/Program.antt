@@ -1,12 +1,14 @@
 -- What the program does, over streams that tell their bytes.
-use Rattle.std.specs.Prelude.{◌≡◌, ◌⊎◌, ℕ, ◌≤◌, Bool, codes, List, [], ◌∷◌, ◌++◌, Option, Some, None, Result, Ok, Err, ⊤}
+use Rattle.std.specs.Prelude.{◌≡◌, ◌≢◌, ◌⊎◌, ℕ, ◌≤◌, Bool, codes, List, [], ◌∷◌, ◌++◌, Option, Some, None, Result, Ok, Err, ⊤}
 use Rattle.vc_explain.specs.Explanation.{Explains}
 use Rattle.vc_text.specs.CheckText.{Checks, ReadsAccepted}
 use Rattle.vc_text.specs.Deadlock.{TellsDeadlock}
 use Rattle.vc_text.specs.FaultLine.{fault_text}
+use Rattle.vc_label_run.specs.Labels.{Labels}
 use Rattle.vc_draw.specs.Graph.{WritesGraph}
 use Rattle.vc_core.specs.declared.close.Close.{Close}
 use Rattle.vc_text.specs.OneNode.{ReadsAs}
+use Rattle.vc_text.specs.declared.schedule.Schedule.TheVariants.{InTurn}
 use Rattle.vc_text.specs.RunText.{RunText, WritesRunBy}
 use Rattle.vc_text.specs.Streams.{Writes}
 use Rattle.vc_text.specs.Tail.{IsTail}
@@ -21,13 +23,14 @@ use Rattle.vc_stats.specs.Texts.{IsEventsText, IsStatsText, IsTrafficJson}
 use Rattle.vc_trace.specs.Replay.{Replays}
 use Rattle.vc_trace.specs.TraceText.{IsTracedText}
 use Rattle.vc_trace.specs.declared.replayed.Replayed.{Replayed}
+use Rattle.vc_trace.specs.declared.replayed.Replayed.TheVariants.{NoEvents}
 use Rattle.vc_words.specs.declared.account.Account.{Account}
 use Rattle.vc_words.specs.declared.account.Account.TheVariants.{Traffic, Events, Counts, Json}
 use Rattle.clap.specs.Walk.{Text}
 use Rattle.clap.specs.Kinds.{IsAmong}
 use Rattle.clap.specs.declared.error.kind.ErrorKind.{ErrorKind}
-use Rattle.vc_words.specs.declared.line.Line.TheVariants.{Check, Explain, Deadlock, Draw, Step, Run, Replay}
-use Rattle.vc_words.specs.CommandLine.{Asks, faults, status_of_kind}
+use Rattle.vc_words.specs.declared.line.Line.TheVariants.{Check, Explain, Deadlock, Label, Draw, Step, Run, Replay}
+use Rattle.vc_words.specs.CommandLine.{Asks, NamesEvents, faults, status_of_kind}
 use Rattle.vc_words.specs.Status.{status_of_acceptance, status_of_fault, status_of_freedom, status_of_end, status_of_replay}
 
 -- the status that was wanted, or that of a fault in writing
@@ -60,19 +63,25 @@ ExplainsNetwork known old new status =
     ((is_accepted : Bool) × Explains known old new (Ok is_accepted) × (status ≡ status_of_acceptance is_accepted))
     ⊎ ((fault : RunFault) × (mid : Option (List ℕ)) × Explains known old mid (Err fault) × TellsFault mid new fault status)
 
--- it is told whether its packets can come to wait for one another in a circle, or a fault of it is told
+-- a cycle of dependencies along which its packets might wait is shown, or that there is none, or a fault of it is told
 abbrev pub FindsDeadlock : Option (List ℕ) → Option (List ℕ) → Option (List ℕ) → ℕ → Type 0
 FindsDeadlock known old new status =
     ((free : Bool) × TellsDeadlock known old new (Ok free) × (status ≡ status_of_freedom free))
     ⊎ ((fault : RunFault) × (mid : Option (List ℕ)) × TellsDeadlock known old mid (Err fault) × TellsFault mid new fault status)
+
+-- it is labelled, and its whole file is written, or it is told why it can't be
+abbrev pub LabelsNetwork : Option (List ℕ) → Option (List ℕ) → Option (List ℕ) → ℕ → Type 0
+LabelsNetwork known old new status =
+    ((is_labelled : Bool) × Labels known old new (Ok is_labelled) × (status ≡ status_of_acceptance is_labelled))
+    ⊎ ((fault : RunFault) × (mid : Option (List ℕ)) × Labels known old mid (Err fault) × TellsFault mid new fault status)
 
 -- it is written as Graphviz text: as its plan says, or with its state after at most so many events, or a fault of it is told
 abbrev pub DrawsNetwork : Option ℕ → Option (List ℕ) → Option (List ℕ) → Option (List ℕ) → ℕ → Type 0
 DrawsNetwork None known old new status = WritesOrTells WritesGraph known old new status
 DrawsNetwork (Some after) known old new status =
     let Draws = WritesRunBy IsStateDrawing (ReadsAccepted known) in
-    ((close : Close) × Draws old new after (Ok close) × (status ≡ 0))
-    ⊎ ((fault : RunFault) × (mid : Option (List ℕ)) × Draws old mid after (Err fault) × TellsFault mid new fault status)
+    ((close : Close) × Draws old new InTurn after (Ok close) × (status ≡ 0))
+    ⊎ ((fault : RunFault) × (mid : Option (List ℕ)) × Draws old mid InTurn after (Err fault) × TellsFault mid new fault status)
 
 -- the text of a run: its traffic, its events and then its traffic, its traffic and then its counts, or its traffic as JSON
 abbrev pub IsTextOf : Account → (is_why : Bool) → RunText
@@ -90,8 +99,8 @@ IsThreadTextOf account is_why = IsTextOf account is_why
 abbrev pub StepsNetwork : StepOptions → Account → Option (List ℕ) → Option (List ℕ) → Option (List ℕ) → ℕ → Type 0
 StepsNetwork options account known old new status =
     let Steps = WritesRunBy (IsTextOf account options.is_why) (ReadsAs options.is_together known) in
-    ((close : Close) × Steps old new options.limit (Ok close) × (status ≡ status_of_end close))
-    ⊎ ((fault : RunFault) × (mid : Option (List ℕ)) × Steps old mid options.limit (Err fault) × TellsFault mid new fault status)
+    ((close : Close) × Steps old new options.schedule options.limit (Ok close) × (status ≡ status_of_end close))
+    ⊎ ((fault : RunFault) × (mid : Option (List ℕ)) × Steps old mid options.schedule options.limit (Err fault) × TellsFault mid new fault status)
 
 -- in threads, so too
 abbrev pub RunsNetwork : ThreadOptions → Account → Option (List ℕ) → Option (List ℕ) → Option (List ℕ) → ℕ → Type 0
@@ -99,6 +108,11 @@ RunsNetwork options account known old new status =
     let RunsThreads = WritesThreads (IsThreadTextOf account options.is_why) options.turns options.seed known in
     ((ending : Ending) × RunsThreads old new (Ok ending) × (status ≡ status_of_end ending.close))
     ⊎ ((fault : RunFault) × (mid : Option (List ℕ)) × RunsThreads old mid (Err fault) × TellsFault mid new fault status)
+
+-- what is known of the files of events: which bytes one of this name may have, and whether it may be that none can be opened
+pub record Files : Type 1 where
+  pub holds : Text → Option (List ℕ) → Type 0
+  pub fails : Text → Type 0
 
 -- the file of events can't be opened
 abbrev pub events_fault : List ℕ
@@ -108,13 +122,20 @@ events_fault = codes "fault events" ++ 10 ∷ []
 abbrev pub no_text_fault : List ℕ
 no_text_fault = codes "error: the command line is no UTF-8" ++ 10 ∷ []
 
--- The events that a file has are made, or a fault of that is told. Where the file can't be opened, or memory is short for its name, that
--- is told, and nothing is read.
-abbrev pub ReplaysNetwork : (is_why : Bool) → Option (List ℕ) → Option (List ℕ) → Option (List ℕ) → ℕ → Type 0
-ReplaysNetwork is_why known old new status =
-    ((file : Option (List ℕ)) × (replayed : Replayed) × Replays is_why known file old new (Ok replayed) × (status ≡ status_of_replay replayed))
-    ⊎ (((file : Option (List ℕ)) × (fault : RunFault) × (mid : Option (List ℕ)) × Replays is_why known file old mid (Err fault) × TellsFault mid new fault status)
-    ⊎ (Tells old new events_fault (status_of_fault Read) status ⊎ TellsFault old new Memory status))
+-- The events of a file are made in the network that the reader had, or a fault of that is told. Where the file can't be opened, that is
+-- told.
+abbrev pub ReplaysFile : (is_why : Bool) → (Option (List ℕ) → Type 0) → Type 0 → Option (List ℕ) → Option (List ℕ) → Option (List ℕ) → ℕ → Type 0
+ReplaysFile is_why Holds Fails known old new status =
+    let Makes = Replays is_why known Holds Fails in
+    (Makes old old (Ok NoEvents) × Tells old new events_fault (status_of_replay NoEvents) status)
+    ⊎ (((replayed : Replayed) × (replayed ≢ NoEvents) × Makes old new (Ok replayed) × (status ≡ status_of_replay replayed))
+    ⊎ ((fault : RunFault) × (mid : Option (List ℕ)) × Makes old mid (Err fault) × TellsFault mid new fault status))
+
+-- the file is the one that the words name, or there was no memory to read its name again
+abbrev pub ReplaysNetwork : Files → List Text → (is_why : Bool) → Option (List ℕ) → Option (List ℕ) → Option (List ℕ) → ℕ → Type 0
+ReplaysNetwork files words is_why known old new status =
+    ((name : Text) × NamesEvents words name × ReplaysFile is_why (files.holds name) (files.fails name) known old new status)
+    ⊎ TellsFault old new Memory status
 
 -- what is wrong with the words, or the help that they ask for, is told, or want of memory
 abbrev pub TellsLine : List Text → Option (List ℕ) → Option (List ℕ) → ℕ → Type 0
@@ -122,19 +143,21 @@ TellsLine words old new status =
     ((text : List ℕ) × (kind : ErrorKind) × IsAmong kind (faults words) × Tells old new text (status_of_kind kind) status)
     ⊎ TellsFault old new Memory status
 
--- What the words ask for is done: the reader's bytes before and after, the writer's, and the status. A line that is told reads nothing.
-pub data Runs (words : List Text) (known rest old new : Option (List ℕ)) (status : ℕ) : Type 0 where
-  checks : Asks words Check → ChecksNetwork known old new status → Runs words known rest old new status
-  explains : Asks words Explain → ExplainsNetwork known old new status → Runs words known rest old new status
-  finds : Asks words Deadlock → FindsDeadlock known old new status → Runs words known rest old new status
-  draws : (after : Option ℕ) → Asks words (Draw after) → DrawsNetwork after known old new status → Runs words known rest old new status
+-- What the words ask for is done, with these files of events: the reader's bytes before and after, the writer's, and the status. A line
+-- that is told reads nothing.
+pub data Runs (files : Files) (words : List Text) (known rest old new : Option (List ℕ)) (status : ℕ) : Type 0 where
+  checks : Asks words Check → ChecksNetwork known old new status → Runs files words known rest old new status
+  explains : Asks words Explain → ExplainsNetwork known old new status → Runs files words known rest old new status
+  finds : Asks words Deadlock → FindsDeadlock known old new status → Runs files words known rest old new status
+  labels : Asks words Label → LabelsNetwork known old new status → Runs files words known rest old new status
+  draws : (after : Option ℕ) → Asks words (Draw after) → DrawsNetwork after known old new status → Runs files words known rest old new status
   steps : (options : StepOptions) (account : Account) → options.limit ≤ 1000000000 → Asks words (Step options account)
       → StepsNetwork options account known old new status
-      → Runs words known rest old new status
+      → Runs files words known rest old new status
   runs : (options : ThreadOptions) (account : Account) → options.turns ≤ 1000000000 → Asks words (Run options account)
       → RunsNetwork options account known old new status
-      → Runs words known rest old new status
+      → Runs files words known rest old new status
   replays : (is_why : Bool) → Asks words (Replay is_why)
-      → ReplaysNetwork is_why known old new status
-      → Runs words known rest old new status
-  tells : rest ≡ known → TellsLine words old new status → Runs words known rest old new status
+      → ReplaysNetwork files words is_why known old new status
+      → Runs files words known rest old new status
+  tells : rest ≡ known → TellsLine words old new status → Runs files words known rest old new status

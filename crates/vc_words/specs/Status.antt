@@ -7,7 +7,7 @@ use Rattle.vc_plan.specs.declared.check_refused.CheckRefused.TheVariants as chec
 use Rattle.vc_reader.specs.declared.refused.ReadRefused.{ReadRefused}
 use Rattle.vc_reader.specs.declared.refused.ReadRefused.TheVariants as read
 use Rattle.vc_trace.specs.declared.replayed.Replayed.{Replayed}
-use Rattle.vc_trace.specs.declared.replayed.Replayed.TheVariants.{Ended, Refused}
+use Rattle.vc_trace.specs.declared.replayed.Replayed.TheVariants.{Ended, Refused, NoEvents}
 use Rattle.vc_text.specs.declared.fault.RunFault.{RunFault}
 use Rattle.vc_text.specs.declared.fault.RunFault.TheVariants.{Read, Write, Text, Plan, Threads, Memory}
 
@@ -48,7 +48,8 @@ status_of_end GateClosed = 3
 status_of_end ClockFull = 3
 status_of_end (Failed actor) = 4
 
--- that of the end of a run, and 2 for an event that is refused
+-- that of the end of a run, 2 for an event that is refused, and 6 where the file of events can't be opened
 abbrev pub status_of_replay : Replayed → ℕ
 status_of_replay (Ended close) = status_of_end close
 status_of_replay Refused = 2
+status_of_replay NoEvents = 6

@@ -2,12 +2,13 @@
 ghost use Rattle.std.specs.Prelude.{◌≡◌, ◌≤◌, IfOk, IfErr, IfSome};
 ghost use Rattle.clap.specs.Words.{found_of, kind_of, rows_of, subcommand_rows_of};
 ghost use Rattle.clap.specs.Walk.{texts};
-ghost use Rattle.vc_words.specs.CommandLine.{account_of, has_flag, line_of as line_for, number_at, number_of, schedule_of, step_options_of, thread_options_of, faults, Asks, IsFaultOf, IsInRange, IsToldAs};
+ghost use Rattle.vc_words.specs.CommandLine.{account_of, has_flag, line_of as line_for, number_at, number_of, schedule_of, step_options_of, thread_options_of, faults, Asks, counted_of, progress_of, shows_progress, HasFound, IsFaultOf, IsInRange, IsToldAs, NamesEvents};
 
 use crate::account::Account;
 use crate::definition::definition;
 use crate::line::Line;
 use crate::line_fault::LineFault;
+use crate::progress::{Progress, Unit};
 use clap::error::ErrorKind;
 use clap::{ArgMatches, Error};
 use std::alloc::Global;
@@ -135,6 +136,7 @@ fn line_of(matches: &ArgMatches<'_>) -> Line
         },
         Some(("explain", _)) => Line::Explain,
         Some(("deadlock", _)) => Line::Deadlock,
+        Some(("label", _)) => Line::Label,
         _ => Line::Check,
     }
 }
@@ -155,22 +157,84 @@ fn fault_of(alloc: Global, error: &Error) -> LineFault
     }
 }
 
-/// What the words ask for; the first is the program's name. They are a command line exactly where `clap` finds no fault in them, and
-/// then the answer is the subcommand with its numbers; else it is one of the faults, or want of memory.
+/// What `clap` finds in the words; the first is the program's name. They are a command line exactly if it finds no fault in them.
+/// Otherwise the call fails with one of the faults, or when out of memory.
+fn matches_of<'a>(alloc: Global, words: &'a [&'a str]) -> Result<ArgMatches<'a>, LineFault>
+    ensures found { IfOk result (HasFound (texts words.now)) }
+    ensures faults { IfErr result (IsFaultOf (faults (texts words.now))) }
+{
+    match definition(alloc)?.try_get_matches_from(words) {
+        Ok(matches) => Ok(matches),
+        Err(error) => Err(fault_of(alloc, &error)),
+    }
+}
+
+/// What the words ask for; the first is the program's name. They are a command line exactly if `clap` finds no fault in them, and
+/// the answer is then the subcommand with its numbers. Otherwise the call fails with one of the faults, or when out of memory.
 pub fn command(alloc: Global, words: &[&str]) -> Result<Line, LineFault>
     ensures asks { IfOk result (Asks (texts words.now)) }
     ensures faults { IfErr result (IsFaultOf (faults (texts words.now))) }
     ensures range { IfOk result IsInRange }
 {
-    match definition(alloc)?.try_get_matches_from(words) {
-        Ok(matches) => Ok(line_of(&matches)),
-        Err(error) => Err(fault_of(alloc, &error)),
-    }
+    let matches = matches_of(alloc, words)?;
+    Ok(line_of(&matches))
 }
 
 /// The file of events that the words of a replay name.
-pub(crate) fn events_of<'a>(alloc: Global, words: &'a [&'a str]) -> Option<&'a str> {
-    let matches = definition(alloc).ok()?.try_get_matches_from(words).ok()?;
+pub(crate) fn events_of<'a>(alloc: Global, words: &'a [&'a str]) -> Option<&'a str>
+    ensures { IfSome result (λ name. NamesEvents (texts words.now) name.now) }
+{
+    let matches = matches_of(alloc, words).ok()?;
     let (_, found) = matches.subcommand()?;
     found.get_str("events")
+}
+
+/// What is counted of the run that a line asks for, and its limit, or None if the line asks for no run.
+fn counted(line: Line) -> Option<Progress>
+    ensures { result ≡ counted_of line }
+{
+    match line {
+        Line::Step { options, .. } => Some(Progress {
+            unit: Unit::Events,
+            most: Some(options.limit),
+        }),
+        Line::Run { options, .. } => Some(Progress {
+            unit: Unit::Turns,
+            most: Some(options.turns),
+        }),
+        Line::Replay { .. } => Some(Progress {
+            unit: Unit::Events,
+            most: None,
+        }),
+        _ => None,
+    }
+}
+
+/// Reports whether progress is shown, by the matches of a subcommand and by whether standard error is a terminal.
+fn asks_for_progress(matches: &ArgMatches<'_>, is_terminal: bool) -> bool
+    ensures { result ≡ shows_progress is_terminal (rows_of (found_of matches.now)) }
+{
+    !is_set(matches, "no-progress") && (is_terminal || is_set(matches, "progress"))
+}
+
+/// What to show of a run while it goes on, if anything. It is shown on a terminal, or if the words have `--progress`, and never if they
+/// have `--no-progress`.
+///
+/// # Errors
+///
+/// The call fails with one of the faults of words that are no command line, and when out of memory.
+pub fn progress_for(
+    alloc: Global,
+    words: &[&str],
+    is_terminal: bool,
+) -> Result<Option<Progress>, LineFault>
+    ensures shows { IfOk result (λ shown. shown ≡ progress_of is_terminal (texts words.now)) }
+    ensures faults { IfErr result (IsFaultOf (faults (texts words.now))) }
+{
+    let matches = matches_of(alloc, words)?;
+    let line = line_of(&matches);
+    match matches.subcommand() {
+        Some((_, found)) if asks_for_progress(found, is_terminal) => Ok(counted(line)),
+        _ => Ok(None),
+    }
 }

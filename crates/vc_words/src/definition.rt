@@ -43,11 +43,22 @@ Example: vcnet explain < examples/squares.json";
 
 /// What stands at the end of the help of `deadlock`.
 const DEADLOCK_HELP: &str = "\
-Prints `free`, or `cycle` with the links by which packets can wait for one another.
+Prints `free` if packets cannot come to wait for one another in a circle, or `cycle` with the links by which they might. It does not look at processes, \
+so a network with a cycle need not get stuck.
 
 Exit status: 0 free; 1 cycle; 2 refused; 4 no memory; 5 a bad command line; 6 a stream failed.
 
 Example: vcnet deadlock < examples/ring.json";
+
+/// The end of the help of `label`.
+const LABEL_HELP: &str = "\
+Reads a network file in its short form: processes, wires and channels, without virtual links, tables, headers and blocks. Links of wires, and \
+kinds and ends of channels, may be left out, too. Prints the whole file, which `check` accepts and for which `deadlock` prints `free`, or \
+`refused` with what is wrong.
+
+Exit status: 0 labelled; 2 refused; 4 no memory; 5 a bad command line; 6 a stream failed.
+
+Example: vcnet label < examples/short/hello.json | vcnet step";
 
 /// What stands at the end of the help of `draw`.
 const DRAW_HELP: &str = "\
@@ -76,7 +87,7 @@ Prints what each channel carried, and how the run ended: `end done` where every 
 `end limit` where more events can happen. A number over one wire takes some 47 events; give a long run a greater --limit. With --why each \
 part of a process that waits or has stopped has a line behind these, and so has each packet. With --trace the events stand in front, one a line. \
 With --stats counts stand behind the traffic. A network can end in more than one way, as where an ALT has several guards or packets wait in a \
-circle: each --schedule N is another order of its events.
+circle: each --schedule N draws another run, guards and links too.
 
 Exit status: 0 done; 1 quiet; 2 refused; 3 limit; 4 no memory; 5 a bad command line; 6 a stream failed.
 
@@ -87,7 +98,8 @@ const RUN_HELP: &str = "\
 Starts a thread for each node and each switch. Prints what each channel carried, and how the run ended: `end done` where every process \
 ended, `end limit` where the threads used up their turns. A network that is quiet ends with `end limit`, too. With --why each part of a \
 process that waits or has stopped has a line behind these, and so has each packet. With --trace the events stand in front, one a line, in an \
-order in which they could have been made one after another.
+order in which they could have been made one after another. With --trace or --stats the run keeps its events until all threads have ended, 32 \
+bytes each.
 
 Exit status: 0 done; 2 refused; 3 limit; 4 no memory or no thread; 5 a bad command line; 6 a stream failed.
 
@@ -107,6 +119,13 @@ const STATS: &str =
 /// What `--json` asks for.
 const JSON: &str =
     "Prints the traffic, and the counts of --stats, as JSON; --why adds nothing then";
+
+/// What `--progress` asks for.
+const PROGRESS: &str =
+    "Shows on standard error how far the run is while it goes on, as on a terminal without it";
+
+/// What `--no-progress` asks for.
+const NO_PROGRESS: &str = "Shows nothing of the run on a terminal while it goes on";
 
 /// How many events or turns a run may be allowed: at most 1,000,000,000.
 fn counts<'a>() -> ValueParser<'a>
@@ -200,7 +219,9 @@ fn replay_definition<'a>(alloc: Global) -> Result<Command<'a>, AllocError>
         .about("Makes the events of a file in the network on standard input and prints its traffic")
         .after_help(REPLAY_HELP)
         .arg(events)?
-        .arg(flag(alloc, "why", WHY))
+        .arg(flag(alloc, "why", WHY))?
+        .arg(flag(alloc, "progress", PROGRESS))?
+        .arg(flag(alloc, "no-progress", NO_PROGRESS))
 }
 
 /// The subcommand that runs the network event by event.
@@ -218,7 +239,7 @@ fn step_definition<'a>(alloc: Global) -> Result<Command<'a>, AllocError>
     let schedule = number_option(
         alloc,
         "schedule",
-        "Makes the events in a random order that N repeats, or in turn where N is 0 (0 to 4,294,967,295)",
+        "Draws each event at random, the same for the same N, or makes them in turn where N is 0 (0 to 4,294,967,295)",
         value_parser!(u32),
         "0",
     );
@@ -236,7 +257,9 @@ fn step_definition<'a>(alloc: Global) -> Result<Command<'a>, AllocError>
         .arg(flag(alloc, "why", WHY))?
         .arg(flag(alloc, "trace", TRACE))?
         .arg(flag(alloc, "stats", STATS))?
-        .arg(flag(alloc, "json", JSON))
+        .arg(flag(alloc, "json", JSON))?
+        .arg(flag(alloc, "progress", PROGRESS))?
+        .arg(flag(alloc, "no-progress", NO_PROGRESS))
 }
 
 /// The subcommand that runs the network in threads.
@@ -266,7 +289,9 @@ fn run_definition<'a>(alloc: Global) -> Result<Command<'a>, AllocError>
         .arg(flag(alloc, "why", WHY))?
         .arg(flag(alloc, "trace", TRACE))?
         .arg(flag(alloc, "stats", STATS))?
-        .arg(flag(alloc, "json", JSON))
+        .arg(flag(alloc, "json", JSON))?
+        .arg(flag(alloc, "progress", PROGRESS))?
+        .arg(flag(alloc, "no-progress", NO_PROGRESS))
 }
 
 /// What the program takes.
@@ -281,8 +306,11 @@ pub(crate) fn definition<'a>(alloc: Global) -> Result<Command<'a>, AllocError>
         .about("Tells what is wrong in the network on standard input, and where")
         .after_help(EXPLAIN_HELP);
     let deadlock = Command::new(alloc, "deadlock")
-        .about("Tells whether packets of the network on standard input can wait in a circle")
+        .about("Shows a cycle along which packets of the network on standard input might wait")
         .after_help(DEADLOCK_HELP);
+    let label = Command::new(alloc, "label")
+        .about("Makes the labelling of the network on standard input and prints the whole file")
+        .after_help(LABEL_HELP);
     Command::new(alloc, "vcnet")
         .about("The virtual channel network of the T9000 and the C104, with occam processes")
         .after_help(PROGRAM_HELP)
@@ -294,5 +322,6 @@ pub(crate) fn definition<'a>(alloc: Global) -> Result<Command<'a>, AllocError>
         .subcommand(draw_definition(alloc)?)?
         .subcommand(step_definition(alloc)?)?
         .subcommand(run_definition(alloc)?)?
-        .subcommand(replay_definition(alloc)?)
+        .subcommand(replay_definition(alloc)?)?
+        .subcommand(label)
 }

@@ -11,11 +11,15 @@ mod definition;
 mod laws;
 mod line;
 mod line_fault;
+mod progress;
 mod words;
 
 pub use account::Account;
-pub use arguments::command;
+pub use arguments::{command, progress_for};
 pub use laws::lines_are_read;
 pub use line::Line;
 pub use line_fault::LineFault;
+pub use progress::{Progress, Unit};
+pub use vc_text::Meter;
+pub use vc_trace::EventFiles;
 pub use words::{run_words, tell_memory, tell_no_text};

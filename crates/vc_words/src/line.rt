@@ -9,8 +9,10 @@ pub enum Line {
     Check,
     /// To tell what is wrong in the network file and where, or what the network has.
     Explain,
-    /// To tell whether packets of the network can come to wait for one another in a circle.
+    /// To show a cycle of dependencies along which packets of the network might wait for one another, or that there is none.
     Deadlock,
+    /// To make the labelling of a network file that has none, and to print the whole file.
+    Label,
     /// To write the network as Graphviz text.
     Draw {
         /// The most events that are made before it is drawn, with the state after them: at most 1,000,000,000. None draws the network

@@ -6,7 +6,7 @@ ghost use Rattle.vc_text.specs.OneNode.{ReadsAs};
 ghost use Rattle.vc_text.specs.RunText.{WritesRunBy};
 ghost use Rattle.vc_text.specs.ThreadsText.{WritesThreads};
 ghost use Rattle.vc_words.specs.CommandLine.{faults, IsFaultOf};
-ghost use Rattle.vc_words.specs.Program.{ChecksNetwork, DrawsNetwork, ExplainsNetwork, FindsDeadlock, IsTextOf, IsThreadTextOf, ReplaysNetwork, Runs, RunsNetwork, StepsNetwork, Tells, TellsFault, TellsLine, no_text_fault};
+ghost use Rattle.vc_words.specs.Program.{ChecksNetwork, DrawsNetwork, ExplainsNetwork, FindsDeadlock, IsTextOf, IsThreadTextOf, LabelsNetwork, ReplaysFile, ReplaysNetwork, Runs, RunsNetwork, StepsNetwork, Tells, TellsFault, TellsLine, no_text_fault};
 ghost use Rattle.vc_words.specs.Status.{status_of_acceptance as status_for_acceptance, status_of_check as status_for_check, status_of_text as status_for_text, status_of_fault, status_of_freedom as status_for_freedom, status_of_end, status_of_replay as status_for_replay};
 
 use crate::account::Account;
@@ -14,23 +14,22 @@ use crate::arguments::{command, events_of};
 use crate::line::Line;
 use crate::line_fault::LineFault;
 use std::alloc::Global;
-use std::fs::File;
 use std::io::{Read, Write};
-use std::rt::Files;
 use std::sync::Wait;
 use std::thread::Threads;
 use vc_core::Close;
 use vc_draw::{run_draw, run_draw_after};
 use vc_explain::run_explain;
+use vc_label_run::run_label;
 use vc_plan::CheckRefused;
 use vc_reader::ReadRefused;
 use vc_stats::{json_net, json_step, stats_net, stats_step};
 use vc_text::{
-    RunFault, StepOptions, ThreadOptions, run_check, run_deadlock, run_net_unlogged,
+    Meter, RunFault, StepOptions, ThreadOptions, run_check, run_deadlock, run_net_unlogged,
     run_step_unlogged, write_fault, write_text,
 };
 use vc_threads::Ending;
-use vc_trace::{Replayed, run_replay, trace_net, trace_step};
+use vc_trace::{EventFile, EventFiles, Replayed, run_replay, trace_net, trace_step};
 
 /// The status for a network that is accepted, or drawn, or without a cycle, or whose processes have all ended.
 const DONE: u8 = 0;
@@ -181,13 +180,24 @@ fn explain_by<R: Read, W: Write>(alloc: Global, reader: &mut R, writer: &mut W) 
     }
 }
 
-/// Tells whether packets of the network that the reader has can come to wait for one another in a circle.
+/// Shows a cycle of dependencies along which packets of the network that the reader has might wait for one another, or that there is none.
 fn deadlock_by<R: Read, W: Write>(alloc: Global, reader: &mut R, writer: &mut W) -> u8
     ensures { FindsDeadlock (R.remaining reader.old)
         (W.contents writer.old) (W.contents writer.new) result }
 {
     match run_deadlock(alloc, reader, writer) {
         Ok(free) => status_of_freedom(free),
+        Err(fault) => tell_fault(alloc, fault, writer),
+    }
+}
+
+/// Writes the whole file of the network that the reader has without its labelling, or what is wrong with it.
+fn label_by<R: Read, W: Write>(alloc: Global, reader: &mut R, writer: &mut W) -> u8
+    ensures { LabelsNetwork (R.remaining reader.old) (W.contents writer.old) (W.contents writer.new)
+        result }
+{
+    match run_label(alloc, reader, writer) {
+        Ok(is_labelled) => status_of_acceptance(is_labelled),
         Err(fault) => tell_fault(alloc, fault, writer),
     }
 }
@@ -204,11 +214,17 @@ fn draw_plan_by<R: Read, W: Write>(alloc: Global, reader: &mut R, writer: &mut W
 }
 
 /// Writes the network that the reader has as Graphviz text, with its state after at most so many events.
-fn draw_state_by<R: Read, W: Write>(alloc: Global, reader: &mut R, writer: &mut W, after: u64) -> u8
+fn draw_state_by<R: Read, W: Write>(
+    alloc: Global,
+    reader: &mut R,
+    writer: &mut W,
+    after: u64,
+    meter: &Meter,
+) -> u8
     ensures { DrawsNetwork (Some after) (R.remaining reader.old)
         (W.contents writer.old) (W.contents writer.new) result }
 {
-    match run_draw_after(alloc, reader, writer, after) {
+    match run_draw_after(alloc, reader, writer, after, meter) {
         Ok(_) => DONE,
         Err(fault) => tell_fault(alloc, fault, writer),
     }
@@ -220,12 +236,13 @@ fn draw_by<R: Read, W: Write>(
     reader: &mut R,
     writer: &mut W,
     after: Option<u64>,
+    meter: &Meter,
 ) -> u8
     ensures { DrawsNetwork after (R.remaining reader.old)
         (W.contents writer.old) (W.contents writer.new) result }
 {
     match after {
-        Some(after) => draw_state_by(alloc, reader, writer, after),
+        Some(after) => draw_state_by(alloc, reader, writer, after, meter),
         None => draw_plan_by(alloc, reader, writer),
     }
 }
@@ -237,16 +254,17 @@ fn write_step<R: Read, W: Write>(
     writer: &mut W,
     options: StepOptions,
     account: Account,
+    meter: &Meter,
 ) -> Result<Close, RunFault>
     ensures { WritesRunBy (IsTextOf account options.is_why)
         (ReadsAs options.is_together (R.remaining reader.old))
-        (W.contents writer.old) (W.contents writer.new) options.limit result }
+        (W.contents writer.old) (W.contents writer.new) options.schedule options.limit result }
 {
     match account {
-        Account::Traffic => run_step_unlogged(alloc, reader, writer, options),
-        Account::Events => trace_step(alloc, reader, writer, options),
-        Account::Counts(form) => stats_step(alloc, reader, writer, form, options),
-        Account::Json => json_step(alloc, reader, writer, options),
+        Account::Traffic => run_step_unlogged(alloc, reader, writer, options, meter),
+        Account::Events => trace_step(alloc, reader, writer, options, meter),
+        Account::Counts(form) => stats_step(alloc, reader, writer, form, options, meter),
+        Account::Json => json_step(alloc, reader, writer, options, meter),
     }
 }
 
@@ -257,11 +275,12 @@ fn step_by<R: Read, W: Write>(
     writer: &mut W,
     options: StepOptions,
     account: Account,
+    meter: &Meter,
 ) -> u8
     ensures { StepsNetwork options account (R.remaining reader.old)
         (W.contents writer.old) (W.contents writer.new) result }
 {
-    match write_step(alloc, reader, writer, options, account) {
+    match write_step(alloc, reader, writer, options, account, meter) {
         Ok(close) => status_of_close(close),
         Err(fault) => tell_fault(alloc, fault, writer),
     }
@@ -275,15 +294,16 @@ fn write_net<T: Threads + Wait + Sync, R: Read, W: Write>(
     writer: &mut W,
     options: ThreadOptions,
     account: Account,
+    meter: &Meter,
 ) -> Result<Ending, RunFault>
     ensures { WritesThreads (IsThreadTextOf account options.is_why) options.turns options.seed
         (R.remaining reader.old) (W.contents writer.old) (W.contents writer.new) result }
 {
     match account {
-        Account::Traffic => run_net_unlogged(rt, alloc, reader, writer, options),
-        Account::Events => trace_net(rt, alloc, reader, writer, options),
-        Account::Counts(form) => stats_net(rt, alloc, reader, writer, form, options),
-        Account::Json => json_net(rt, alloc, reader, writer, options),
+        Account::Traffic => run_net_unlogged(rt, alloc, reader, writer, options, meter),
+        Account::Events => trace_net(rt, alloc, reader, writer, options, meter),
+        Account::Counts(form) => stats_net(rt, alloc, reader, writer, form, options, meter),
+        Account::Json => json_net(rt, alloc, reader, writer, options, meter),
     }
 }
 
@@ -295,11 +315,12 @@ fn run_by<T: Threads + Wait + Sync, R: Read, W: Write>(
     writer: &mut W,
     options: ThreadOptions,
     account: Account,
+    meter: &Meter,
 ) -> u8
     ensures { RunsNetwork options account (R.remaining reader.old)
         (W.contents writer.old) (W.contents writer.new) result }
 {
-    match write_net(rt, alloc, reader, writer, options, account) {
+    match write_net(rt, alloc, reader, writer, options, account, meter) {
         Ok(ending) => status_of_close(ending.close),
         Err(fault) => tell_fault(alloc, fault, writer),
     }
@@ -312,53 +333,81 @@ fn status_of_replay(replayed: Replayed) -> u8
     match replayed {
         Replayed::Ended(close) => status_of_close(close),
         Replayed::Refused => REFUSED,
+        Replayed::NoEvents => BAD_STREAM,
     }
 }
 
-/// Makes the events of the file that the words name in the network that the reader has, and answers the status.
-fn replay_by<T: Files, R: Read, W: Write>(
-    rt: &T,
+/// Makes the events of a file in the network that the reader has, and answers the status.
+fn replay_file<F: EventFiles, R: Read, W: Write>(
     alloc: Global,
-    words: &[&str],
     reader: &mut R,
+    file: EventFile<'_, F>,
     writer: &mut W,
     is_why: bool,
+    meter: &Meter,
 ) -> u8
-    ensures { ReplaysNetwork is_why (R.remaining reader.old)
-        (W.contents writer.old) (W.contents writer.new) result }
+    ensures { ReplaysFile is_why
+        (F.holds file.entry.files.now file.entry.name.now)
+        (F.fails file.entry.files.now file.entry.name.now)
+        (R.remaining reader.old) (W.contents writer.old) (W.contents writer.new) result }
 {
-    let Some(name) = events_of(alloc, words) else {
-        return tell_fault(alloc, RunFault::Memory, writer);
-    };
-    let Ok(mut file) = File::open(rt, name) else {
-        return tell_text(b"fault events\n", BAD_STREAM, writer);
-    };
-    match run_replay(alloc, reader, &mut file, writer, is_why) {
+    match run_replay(alloc, reader, file, writer, is_why, meter) {
+        Ok(Replayed::NoEvents) => tell_text(b"fault events\n", BAD_STREAM, writer),
         Ok(replayed) => status_of_replay(replayed),
         Err(fault) => tell_fault(alloc, fault, writer),
     }
 }
 
+/// Makes the events of the file that the words name in the network that the reader has, and answers the status.
+fn replay_by<F: EventFiles, R: Read, W: Write>(
+    files: &F,
+    alloc: Global,
+    words: &[&str],
+    reader: &mut R,
+    writer: &mut W,
+    is_why: bool,
+    meter: &Meter,
+) -> u8
+    ensures { ReplaysNetwork (record { holds = F.holds files.now; fails = F.fails files.now })
+        (texts words.now) is_why
+        (R.remaining reader.old) (W.contents writer.old) (W.contents writer.new) result }
+{
+    let Some(name) = events_of(alloc, words) else {
+        return tell_fault(alloc, RunFault::Memory, writer);
+    };
+    let file = EventFile { files, name };
+    replay_file(alloc, reader, file, writer, is_why, meter)
+}
+
 /// Does what the words ask for, over any reader and any writer; the first word is the program's name. The words are read before
-/// the reader, and a bad line reads nothing. The answer is the program's status.
-pub fn run_words<T: Files + Threads + Wait + Sync, R: Read, W: Write>(
+/// the reader, and a bad line reads nothing. The meter notes from time to time how far a run is. The answer is the program's status.
+pub fn run_words<T: EventFiles + Threads + Wait + Sync, R: Read, W: Write>(
     rt: &T,
     alloc: Global,
     words: &[&str],
     reader: &mut R,
     writer: &mut W,
+    meter: &Meter,
 ) -> u8
-    ensures { Runs (texts words.now) (R.remaining reader.old) (R.remaining reader.new)
+    ensures { Runs (record { holds = T.holds rt.now; fails = T.fails rt.now })
+        (texts words.now) (R.remaining reader.old) (R.remaining reader.new)
         (W.contents writer.old) (W.contents writer.new) result }
 {
     match command(alloc, words) {
         Ok(Line::Check) => check_by(alloc, reader, writer),
         Ok(Line::Explain) => explain_by(alloc, reader, writer),
         Ok(Line::Deadlock) => deadlock_by(alloc, reader, writer),
-        Ok(Line::Draw { after }) => draw_by(alloc, reader, writer, after),
-        Ok(Line::Step { options, account }) => step_by(alloc, reader, writer, options, account),
-        Ok(Line::Run { options, account }) => run_by(rt, alloc, reader, writer, options, account),
-        Ok(Line::Replay { is_why }) => replay_by(rt, alloc, words, reader, writer, is_why),
+        Ok(Line::Label) => label_by(alloc, reader, writer),
+        Ok(Line::Draw { after }) => draw_by(alloc, reader, writer, after, meter),
+        Ok(Line::Step { options, account }) => {
+            step_by(alloc, reader, writer, options, account, meter)
+        }
+        Ok(Line::Run { options, account }) => {
+            run_by(rt, alloc, reader, writer, options, account, meter)
+        }
+        Ok(Line::Replay { is_why }) => {
+            replay_by(rt, alloc, words, reader, writer, is_why, meter)
+        }
         Err(fault) => tell_line_fault(alloc, &fault, writer),
     }
 }

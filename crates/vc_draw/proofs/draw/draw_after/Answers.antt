@@ -6,6 +6,7 @@ use Rattle.vc_draw.specs.State.{IsStateDrawing, IsStateGraph}
 use Rattle.vc_plan.specs.declared.plan.Plan.{Plan}
 use Rattle.vc_text.specs.Streams.{Writes}
 use Rattle.vc_text.proofs.StepText.{run_unwritten, writes_one}
+use Rattle.vc_text.specs.declared.schedule.Schedule.TheVariants.{InTurn}
 use Rattle.vc_draw.proofs.draw.draw_after.Goals as goal
 
 pub state_graph-requires : goal.state_graph-requires
@@ -25,4 +26,4 @@ returns g c =
     let text = c.in_ok-text.text.items in
     let is = subst (λ (q : Plan). IsStateGraph q x text) c.plan.ensures.plan c.in_ok-text.ensures in
     let wrote = subst (λ t. Writes old new t (Err c.in-Err.fault)) c.as_slice.ensures.value c.in-Err.ensures in
-    run_unwritten IsStateDrawing old new c.args.limit p ran.0 x close c.in-Err.fault ran.1 (writes_one (IsStateDrawing p ran.0 x close) old new text (Err c.in-Err.fault) is wrote)
+    run_unwritten IsStateDrawing old new InTurn c.args.limit p ran.0 x close c.in-Err.fault ran.1 (writes_one (IsStateDrawing p ran.0 x close) old new text (Err c.in-Err.fault) is wrote)

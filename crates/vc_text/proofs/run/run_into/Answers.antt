@@ -2,6 +2,7 @@ use Rattle.std.proofs.Common.{[], arith, length, sym, subst}
 use Rattle.vc_core.specs.Replay.{Replays}
 use Rattle.vc_core.specs.State.{shown, state_of, IsNetworkOf}
 use Rattle.vc_text.specs.Close.{Closes}
+use Rattle.vc_text.specs.Schedules.{IsInOrder}
 use Rattle.vc_core.proofs.ReplayRuns.{replays}
 use Rattle.vc_text.proofs.Closes.{processes_wait}
 use Rattle.vc_text.proofs.GeneratorDraws.{given_words}
@@ -10,7 +11,7 @@ use Rattle.vc_text.proofs.run.run_into.Goals as goal
 pub returns-clause-is : goal.returns-clause-is
 returns-clause-is g c =
     let p = c.args.accepted.now in
-    let ran = c.in_ok-make_events.ensures.runs p [] (c.requires _ c.in_ok-run.ensures.opening) c.in_ok-run.ensures.opens in
+    let ran = c.in_ok-make_events.ensures.runs p (c.requires _ c.in_ok-run.ensures.opening) c.in_ok-run.ensures.opens in
     subst (IsNetworkOf p) (sym c.in_ok-close.ensures.same) ran.2.reached.is
 
 pub returns-clause-run : goal.returns-clause-run
@@ -20,7 +21,7 @@ returns-clause-run g c =
     let empty = c.requires _ c.in_ok-run.ensures.opening in
     let t = state_of c.close.new.self.network in
     let mid = c.make_events.new.self in
-    let ran = c.in_ok-make_events.ensures.runs p [] empty begun in
+    let ran = c.in_ok-make_events.ensures.runs p empty begun in
     let events = ran.0 in
     let ends = c.in_ok-make_events.ensures.ends p [] empty begun in
     let few = c.in_ok-make_events.ensures.few in
@@ -34,14 +35,18 @@ returns-clause-run g c =
       record {
         few = omega (arith, few, many);
         runs = there.runs;
+        order = subst (λ z. IsInOrder p c.args.schedule events (shown z)) (sym c.in_ok-close.ensures.same) ran.3;
         words = given_words p events mid.generators ran.2.words;
         closes = closes;
         waits = processes_wait p events t (length events) c.args.limit c.in_ok-close.close there closes;
       },
     )
 
-pub make_events-requires : goal.make_events-requires
-make_events-requires g c = let none = c.in_ok-run.ensures.none in omega (arith, none)
+pub make_events-requires-clause-few : goal.make_events-requires-clause-few
+make_events-requires-clause-few g c = let none = c.in_ok-run.ensures.none in omega (arith, none)
+
+pub make_events-requires-clause-is : goal.make_events-requires-clause-is
+make_events-requires-clause-is g c = (c.args.accepted.now, c.in_ok-run.ensures.opening.is)
 
 pub close-requires : goal.close-requires
 close-requires g c = c.in_ok-make_events.ensures.few

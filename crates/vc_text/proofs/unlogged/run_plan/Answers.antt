@@ -19,8 +19,8 @@ returns-in_err-write_tail g c =
     let new = g.W.Write.contents c.write_tail.new.writer in
     let fault = c.in_err-write_tail.field-0.0 in
     let wrote = subst (λ (p : Plan). WritesOne (IsTail why p ran.0 x close) old new (Err fault)) c.plan.ensures.plan (c.in_err-write_tail.ensures ran.0) in
-    subst (WritesRun (IsTail why) plan old new options.limit) (sym (handed_on c.from_residual-in_err-write_tail.result c.in_err-write_tail.field-0.0 c.from_residual-in_err-write_tail.ensures))
-    (run_unwritten (IsTail why) old new options.limit plan ran.0 x close fault ran.1 wrote)
+    subst (WritesRun (IsTail why) plan old new options.schedule options.limit) (sym (handed_on c.from_residual-in_err-write_tail.result c.in_err-write_tail.field-0.0 c.from_residual-in_err-write_tail.ensures))
+    (run_unwritten (IsTail why) old new options.schedule options.limit plan ran.0 x close fault ran.1 wrote)
 
 pub returns : goal.returns
 returns g c =

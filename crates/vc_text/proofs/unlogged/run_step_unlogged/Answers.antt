@@ -9,4 +9,4 @@ returns g c =
     let options = c.args.options in
     let known = g.R.Read.remaining c.args.reader.now in
     writes_by (IsTail options.is_why) (ReadsAs options.is_together known) (memory_as options.is_together known) c.in_ok-accepted.accepted
-    (g.W.Write.contents c.args.writer.now) _ options.limit _ c.in_ok-accepted.ensures c.run_plan.ensures
+    (g.W.Write.contents c.args.writer.now) _ options.schedule options.limit _ c.in_ok-accepted.ensures c.run_plan.ensures

@@ -6,8 +6,8 @@ use Rattle.vc_text.specs.Streams.{AppendsFront}
 use Rattle.vc_waits.specs.Waits.{newline}
 use Rattle.vc_plan.specs.Names.{actor_name}
 use Rattle.vc_trace.specs.EventText.{act_words, event_line, spaced}
-use Rattle.vc_trace.specs.Private.Pieces.{Passes}
-use Rattle.vc_trace.proofs.TextWrites.{any_err, front_first, passes_front, passes_two}
+use Rattle.vc_text.specs.Pieces.{Passes}
+use Rattle.vc_text.proofs.TextWrites.{any_err, front_first, passes_front, passes_two}
 use Rattle.vc_trace.proofs.event_text.put_event.Goals as goal
 
 -- the parts of a line, as they are put

@@ -1,7 +1,7 @@
 use Rattle.std.proofs.Common.{codes}
 use Rattle.std.proofs.lemmas.Result.{on_err_weaker, on_ok_weaker}
 use Rattle.vc_trace.specs.EventText.{move_words, spaced}
-use Rattle.vc_trace.proofs.TextWrites.{any_err, front_first, passes_front, passes_two}
+use Rattle.vc_text.proofs.TextWrites.{any_err, front_first, passes_front, passes_two}
 use Rattle.vc_trace.proofs.event_text.put_proc.Goals as goal
 
 pub returns-in_err-put-clause-err : goal.returns-in_err-put-clause-err

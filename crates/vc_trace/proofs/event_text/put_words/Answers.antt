@@ -1,5 +1,5 @@
 use Rattle.vc_trace.specs.Private.EventText.{spaced_word}
-use Rattle.vc_trace.proofs.TextWrites.{any_err, fails_there, passes_more}
+use Rattle.vc_text.proofs.TextWrites.{any_err, fails_there, passes_more}
 use Rattle.vc_trace.proofs.event_text.put_words.Goals as goal
 
 pub returns-in_err-put_spaced-clause-err : goal.returns-in_err-put_spaced-clause-err

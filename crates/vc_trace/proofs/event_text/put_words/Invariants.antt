@@ -1,6 +1,6 @@
 use Rattle.std.proofs.Common.{take}
 use Rattle.vc_trace.specs.Private.EventText.{words_text}
-use Rattle.vc_trace.specs.Private.Pieces.{Passes}
+use Rattle.vc_text.specs.Pieces.{Passes}
 use Rattle.vc_trace.proofs.event_text.put_words.Given as goal
 
 abbrev pub invariant-loop-word : goal.invariant-loop-word

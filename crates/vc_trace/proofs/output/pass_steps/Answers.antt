@@ -1,20 +1,21 @@
 use Rattle.std.proofs.Common.{[]}
 use Rattle.std.proofs.lemmas.Result.{on_err_weaker, on_ok_weaker}
+use Rattle.vc_text.specs.Tail.{tail_text}
 use Rattle.vc_trace.specs.EventText.{events_text}
-use Rattle.vc_trace.proofs.TextWrites.{any_err, front_first, passes_front, passes_last}
+use Rattle.vc_text.proofs.TextWrites.{any_err, front_first, passes_front, passes_last}
 use Rattle.vc_trace.proofs.output.pass_steps.Goals as goal
 
 pub returns-in_err-put_steps-clause-err : goal.returns-in_err-put_steps-clause-err
 returns-in_err-put_steps-clause-err g c =
     let text = events_text c.args.plan.now c.args.steps.now in
-    any_err c.from_residual.result (front_first _ _ [] text c.args.traffic.now (rw c.new-piece.ensures at c.in_err-put_steps.ensures.err))
+    any_err c.from_residual.result (front_first _ _ [] text (tail_text c.args.tail.now) (rw c.new-piece.ensures at c.in_err-put_steps.ensures.err))
 
 pub returns-clause-ok : goal.returns-clause-ok
 returns-clause-ok g c =
     let text = events_text c.args.plan.now c.args.steps.now in
-    on_ok_weaker c.put_last.result (passes_last _ _ _ [] _ text c.args.traffic.now (rw c.new-piece.ensures at c.in_ok-put_steps.ensures.ok)) c.put_last.ensures.ok
+    on_ok_weaker c.put_last.result (passes_last _ _ _ [] _ text (tail_text c.args.tail.now) (rw c.new-piece.ensures at c.in_ok-put_steps.ensures.ok)) c.put_last.ensures.ok
 
 pub returns-clause-err : goal.returns-clause-err
 returns-clause-err g c =
     let text = events_text c.args.plan.now c.args.steps.now in
-    on_err_weaker c.put_last.result (passes_front _ _ _ [] _ text c.args.traffic.now (rw c.new-piece.ensures at c.in_ok-put_steps.ensures.ok)) c.put_last.ensures.err
+    on_err_weaker c.put_last.result (passes_front _ _ _ [] _ text (tail_text c.args.tail.now) (rw c.new-piece.ensures at c.in_ok-put_steps.ensures.ok)) c.put_last.ensures.err

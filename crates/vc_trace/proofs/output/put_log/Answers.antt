@@ -5,8 +5,8 @@ use Rattle.vc_text.specs.EventLog.{events_left}
 use Rattle.vc_plan.specs.declared.plan.Plan.{Plan}
 use Rattle.vc_text.specs.Streams.{AppendsFront}
 use Rattle.vc_trace.specs.EventText.{event_line, events_text}
-use Rattle.vc_trace.specs.Private.Pieces.{Passes}
-use Rattle.vc_trace.proofs.TextWrites.{any_err, front_first, passes_front, passes_two}
+use Rattle.vc_text.specs.Pieces.{Passes}
+use Rattle.vc_text.proofs.TextWrites.{any_err, front_first, passes_front, passes_two}
 use Rattle.vc_trace.proofs.output.put_log.Goals as goal
 
 -- the lines of one event more

@@ -1,7 +1,7 @@
 use Rattle.std.proofs.Common.{◌≡◌, ◌++◌}
 use Rattle.vc_text.specs.EventLog.{events_left}
 use Rattle.vc_trace.specs.EventText.{events_text}
-use Rattle.vc_trace.specs.Private.Pieces.{Passes}
+use Rattle.vc_text.specs.Pieces.{Passes}
 use Rattle.vc_trace.proofs.output.put_log.Given as goal
 
 abbrev pub invariant-loop-event : goal.invariant-loop-event

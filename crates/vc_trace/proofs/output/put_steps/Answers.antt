@@ -1,5 +1,5 @@
 use Rattle.vc_trace.specs.EventText.{event_line}
-use Rattle.vc_trace.proofs.TextWrites.{any_err, fails_there, passes_more}
+use Rattle.vc_text.proofs.TextWrites.{any_err, fails_there, passes_more}
 use Rattle.vc_trace.proofs.output.put_steps.Goals as goal
 
 pub returns-in_err-put_event-clause-err : goal.returns-in_err-put_event-clause-err

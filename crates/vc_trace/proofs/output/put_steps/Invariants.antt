@@ -1,6 +1,6 @@
 use Rattle.std.proofs.Common.{take}
 use Rattle.vc_trace.specs.EventText.{events_text}
-use Rattle.vc_trace.specs.Private.Pieces.{Passes}
+use Rattle.vc_text.specs.Pieces.{Passes}
 use Rattle.vc_trace.proofs.output.put_steps.Given as goal
 
 abbrev pub invariant-loop-event : goal.invariant-loop-event

@@ -5,7 +5,7 @@ use Rattle.vc_core.specs.declared.event.Event.{Event}
 use Rattle.vc_plan.specs.declared.plan.Plan.{Plan}
 use Rattle.vc_threads.specs.declared.report.Ending.{Ending}
 use Rattle.vc_text.specs.Streams.{Writes}
-use Rattle.vc_text.specs.Tail.{IsTail}
+use Rattle.vc_text.specs.Tail.{IsTail, tail_text}
 use Rattle.vc_text.specs.ThreadsText.{WritesThreads}
 use Rattle.vc_text.proofs.CheckText.{memory_any}
 use Rattle.vc_text.proofs.StepText.{handed_on, writes_one}
@@ -15,8 +15,8 @@ use Rattle.vc_trace.specs.TraceText.{IsTracedText}
 use Rattle.vc_trace.proofs.RunTexts.{traced}
 use Rattle.vc_trace.proofs.thread_run.trace_net.Goals as goal
 
-pub tail_of-requires : goal.tail_of-requires
-tail_of-requires g c =
+pub new-requires : goal.new-requires
+new-requires g c =
     let r = c.in_ok-report.report in
     let ran = c.in_ok-report.ensures in
     subst (λ (p : Plan). (events : List Event) × Reached p events (state_of r.state)) (sym c.plan-plan.ensures.plan) (r.steps.items, record { is = ran.replays.is; happen = ran.replays.runs.happen })
@@ -30,14 +30,14 @@ returns-in_err-write_steps g c =
     let e : Ending = record { state = r.state; stops = r.stops; close = r.close } in
     let x = shown (state_of r.state) in
     let events = r.steps.items in
-    let tail = c.in_ok-tail.tail.items in
-    let is = subst (λ (q : Plan). IsTail why q events x r.close tail) c.plan-plan.ensures.plan (c.in_ok-tail.ensures events) in
+    let tail = tail_text c.in_ok-tail.tail in
+    let is = subst (λ (q : Plan). IsTail why q events x r.close tail) c.plan-plan.ensures.plan (c.in_ok-tail.ensures.text events) in
     let known = g.R.Read.remaining c.args.reader.now in
     let old = g.W.Write.contents c.args.writer.now in
     let new = g.W.Write.contents c.write_steps.new.writer in
     let fault = c.in_err-write_steps.field-0.0 in
-    let raw : Writes old new (events_text c.plan-plan.result.now c.as_slice.result.now ++ c.as_slice-2.result.now) (Err fault) = c.in_err-write_steps.ensures in
-    let same : events_text c.plan-plan.result.now c.as_slice.result.now ++ c.as_slice-2.result.now ≡ events_text p events ++ tail = rw (c.plan-plan.ensures.plan, c.as_slice.ensures.value, c.as_slice-2.ensures.value) refl in
+    let raw : Writes old new (events_text c.plan-plan.result.now c.as_slice.result.now ++ tail) (Err fault) = c.in_err-write_steps.ensures in
+    let same : events_text c.plan-plan.result.now c.as_slice.result.now ++ tail ≡ events_text p events ++ tail = rw (c.plan-plan.ensures.plan, c.as_slice.ensures.value) refl in
     let wrote = subst (λ t. Writes old new t (Err fault)) same raw in
     subst (WritesThreads (IsTracedText why) options.turns options.seed known old new) (sym (handed_on c.from_residual-in_err-write_steps.result fault c.from_residual-in_err-write_steps.ensures))
     (threads_unwritten (IsTracedText why) options.turns options.seed known old new p e events fault c.in_ok-accepted.ensures c.in_ok-report.ensures
@@ -50,9 +50,9 @@ returns g c =
     let r = c.in_ok-report.report in
     let x = shown (state_of r.state) in
     let events = r.steps.items in
-    let tail = c.in_ok-tail.tail.items in
-    let is = subst (λ (q : Plan). IsTail why q events x r.close tail) c.plan-plan.ensures.plan (c.in_ok-tail.ensures events) in
-    let wrote = rw (c.plan-plan.ensures.plan, c.as_slice.ensures.value, c.as_slice-2.ensures.value) at c.in_ok-write_steps.ensures in
+    let tail = tail_text c.in_ok-tail.tail in
+    let is = subst (λ (q : Plan). IsTail why q events x r.close tail) c.plan-plan.ensures.plan (c.in_ok-tail.ensures.text events) in
+    let wrote = rw (c.plan-plan.ensures.plan, c.as_slice.ensures.value) at c.in_ok-write_steps.ensures in
     rw (c.into_ending.ensures) (p, c.in_ok-accepted.ensures, (events_text p events ++ tail, (events, c.in_ok-report.ensures, traced why p events x r.close tail is), wrote))
 
 pub returns-in_err-tail : goal.returns-in_err-tail

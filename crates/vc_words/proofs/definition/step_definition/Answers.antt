@@ -16,7 +16,9 @@ returns-clause-shape c =
     let four = c.in_ok-arg-4.ensures.shape c.flag.ensures.local ∙ ap₂ with_rule three c.flag.ensures.rule in
     let traced = c.in_ok-arg-5.ensures.shape c.flag-2.ensures.local ∙ ap₂ with_rule four c.flag-2.ensures.rule in
     let counted = c.in_ok-arg-6.ensures.shape c.flag-3.ensures.local ∙ ap₂ with_rule traced c.flag-3.ensures.rule in
-    IfOk-weaker c.arg-7.result _ _ (λ r h. ap (λ (a : App). a.top) (h.shape c.flag-4.ensures.local ∙ ap₂ with_rule counted c.flag-4.ensures.rule)) c.arg-7.ensures
+    let last = c.in_ok-arg-7.ensures.shape c.flag-4.ensures.local ∙ ap₂ with_rule counted c.flag-4.ensures.rule in
+    let shown = c.in_ok-arg-8.ensures.shape c.flag-5.ensures.local ∙ ap₂ with_rule last c.flag-5.ensures.rule in
+    IfOk-weaker c.arg-9.result _ _ (λ r h. ap (λ (a : App). a.top) (h.shape c.flag-6.ensures.local ∙ ap₂ with_rule shown c.flag-6.ensures.rule)) c.arg-9.ensures
 
 pub returns-clause-local : goal.returns-clause-local
 returns-clause-local c =
@@ -27,4 +29,6 @@ returns-clause-local c =
     let four = neither _ _ _ c.in_ok-arg-4.ensures.globals three c.flag.ensures.local in
     let traced = neither _ _ _ c.in_ok-arg-5.ensures.globals four c.flag-2.ensures.local in
     let counted = neither _ _ _ c.in_ok-arg-6.ensures.globals traced c.flag-3.ensures.local in
-    IfOk-weaker c.arg-7.result _ _ (λ r h. neither _ _ _ h.globals counted c.flag-4.ensures.local) c.arg-7.ensures
+    let last = neither _ _ _ c.in_ok-arg-7.ensures.globals counted c.flag-4.ensures.local in
+    let shown = neither _ _ _ c.in_ok-arg-8.ensures.globals last c.flag-5.ensures.local in
+    IfOk-weaker c.arg-9.result _ _ (λ r h. neither _ _ _ h.globals shown c.flag-6.ensures.local) c.arg-9.ensures

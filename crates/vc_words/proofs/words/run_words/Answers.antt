@@ -1,8 +1,8 @@
 use Rattle.std.proofs.Common.{rules, refl, ◌≤◌}
 use Rattle.clap.specs.Walk.{texts}
 use Rattle.vc_words.specs.CommandLine.{Asks, IsFaultOf, faults}
-use Rattle.vc_words.specs.Program.{checks, draws, explains, finds, replays, steps, runs, tells}
-use Rattle.vc_words.specs.declared.line.Line.TheVariants.{Check, Explain, Deadlock, Draw, Step, Run, Replay}
+use Rattle.vc_words.specs.Program.{checks, draws, explains, finds, labels, replays, steps, runs, tells}
+use Rattle.vc_words.specs.declared.line.Line.TheVariants.{Check, Explain, Deadlock, Label, Draw, Step, Run, Replay}
 use Rattle.vc_words.proofs.words.run_words.Goals as goal
 
 pub returns-in-Ok-Check : goal.returns-in-Ok-Check
@@ -19,6 +19,11 @@ pub returns-in-Ok-Deadlock : goal.returns-in-Ok-Deadlock
 returns-in-Ok-Deadlock g c =
     let asks : Asks (texts c.args.words.now) Deadlock = search rules in
     finds asks c.deadlock_by.ensures
+
+pub returns-in-Ok-Label : goal.returns-in-Ok-Label
+returns-in-Ok-Label g c =
+    let asks : Asks (texts c.args.words.now) Label = search rules in
+    labels asks c.label_by.ensures
 
 pub returns-in-Ok-Draw : goal.returns-in-Ok-Draw
 returns-in-Ok-Draw g c =

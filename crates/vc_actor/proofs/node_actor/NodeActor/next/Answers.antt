@@ -2,10 +2,11 @@ use Rattle.std.proofs.Common.{IfOk, Some, sym, subst}
 use Rattle.vc_actor.specs.Able.{NodeCan}
 use Rattle.vc_actor.specs.OfPlan.{IsNodeOf}
 use Rattle.vc_actor.specs.ActorView.{OfNode}
-use Rattle.vc_actor.specs.Turns.{IsTurn, FindsOf}
+use Rattle.vc_actor.specs.Turns.{IsTurn}
+use Rattle.vc_actor.specs.Private.Kinds.{FindsOf}
 use Rattle.vc_actor.specs.Private.Turns.{FindsAt, FindsMove}
 use Rattle.vc_actor.specs.declared.act.Act.TheVariants as act
-use Rattle.vc_actor.specs.declared.act.ActKind.TheVariants as kind
+use Rattle.vc_actor.specs.Private.Kinds as kind
 use Rattle.vc_actor.proofs.Turns.{passes, puts, grants, moves, of_node, if_ok}
 use Rattle.vc_actor.proofs.node_actor.NodeActor.next.Goals as goal
 

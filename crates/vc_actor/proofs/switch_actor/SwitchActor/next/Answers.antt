@@ -1,7 +1,7 @@
 use Rattle.std.proofs.Common.{subst}
 use Rattle.vc_actor.specs.ActorView.{OfSwitch}
-use Rattle.vc_actor.specs.Turns.{FindsOf}
-use Rattle.vc_actor.specs.declared.act.ActKind.TheVariants as kind
+use Rattle.vc_actor.specs.Private.Kinds.{FindsOf}
+use Rattle.vc_actor.specs.Private.Kinds as kind
 use Rattle.vc_actor.proofs.Turns.{passes_here, routes_here, puts, grants, of_switch}
 use Rattle.vc_actor.proofs.switch_actor.SwitchActor.next.Goals as goal
 
