@@ -5,7 +5,7 @@
 - a crate that README.md or docs/ names as `vc_..` and that crates.txt has not;
 - a sentence of theirs with over 40 words;
 - a name between backticks (a function, a type, a clause, an edit) that no source, script, example or file has; words in capitals stand for
-  something else, docs/FORMAT.md is held by bench/format.py, and docs/lab/ speaks of its day;
+  something else, and docs/FORMAT.md is held by bench/format.py;
 - a piece of Rattle in docs/CALLING.md that does not stand so in crates/vc_uses;
 - a script of bench/ that does not say with which kit it was made, as README.md names it.
 
@@ -118,10 +118,8 @@ def main():
     for path in DOCUMENTS:
         text = text_of(path)
         told += [*missing_files(path, text), *missing_crates(path, text)]
-        if not path.startswith("docs/lab/"):
-            told += [*missing_specs(path, text), *lost_modules(path, text)]
-        told += long_sentences(path, text)
-        if not path.startswith("docs/lab/") and not path.endswith("FORMAT.md"):
+        told += [*missing_specs(path, text), *lost_modules(path, text), *long_sentences(path, text)]
+        if not path.endswith("FORMAT.md"):
             told += unknown_names(path, text, known)
         if path.endswith("CALLING.md"):
             told += strange_code(path, text)

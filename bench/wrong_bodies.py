@@ -1,13 +1,12 @@
 #!/usr/bin/env python3
-"""Makes docs/WRONG_BODIES.md of the edits: bench/wrong_bodies.py [--write].
+"""Looks at the edits: bench/wrong_bodies.py [--list].
 
-The page is bench/edits/head.md, which is written by hand, and then a table for each crate: its edits, what each one's wrong body does, and
-who tries it. What it does is the edit's first line, behind a `#`: one sentence or two. Without --write it prints a line for each of these,
-and fails where there is one: an edit without such a line, an edit that the sources do not take, an edit that head.md names and that is
-not there, and a page other than that of the files. With --write it writes the page.
+It prints a line for each of these, and fails if there is one: an edit whose first line does not say, after a `#` and in a sentence or two,
+what its wrong body does; an edit that the sources do not take; and an edit that docs/PROOF.md names and that is not there. With --list it
+prints a table for each crate: its edits, what each one's wrong body does, and who tries it.
 
-An edit is lines `file: PATH`, `old: TEXT` and `new: TEXT`, in order. Its crate's sources take it where each old text stands in its file
-once, after the edits before it.
+An edit is lines `file: PATH`, `old: TEXT` and `new: TEXT`, in order. Its crate's sources take it if each old text is in its file once, after
+the edits before it.
 
 Made with rattle-kit-13f, logic dac8208d650f15bf.
 """
@@ -17,7 +16,7 @@ import re
 import sys
 
 ROOT = os.path.dirname(os.path.dirname(os.path.abspath(__file__)))
-PAGE = f"{ROOT}/docs/WRONG_BODIES.md"
+PAGE = f"{ROOT}/docs/PROOF.md"
 REASON = re.compile(r"# ([A-Z`].*\.)\n")
 # Who tries the edits of a folder.
 TRIED = {"crates": "gate", "bench": "bench"}
@@ -38,7 +37,7 @@ def crate_and_name(path):
 
 
 def edits():
-    """Each edit's crate, name, what it does (nothing where its first line does not say it) and who tries it."""
+    """Each edit's crate, name, what it does (nothing if its first line does not say it) and who tries it."""
     found = []
     for path in paths():
         reason = REASON.match(text_of(path))
@@ -48,7 +47,7 @@ def edits():
 
 
 def refusal(path, crate):
-    """Why the sources of its crate do not take an edit; nothing where they do."""
+    """Why the sources of its crate do not take an edit; nothing if they do."""
     texts, file, old = {}, None, None
     for line in text_of(path).split("\n"):
         word, _, rest = line.partition(": ")
@@ -76,28 +75,25 @@ def untaken():
             yield f"{crate}/{name}: {why}"
 
 
-def page(found):
-    """The page's text."""
+def table(found):
+    """The list of all edits."""
     by_gate = sum(tried == "gate" for *_, tried in found)
-    lines = [f"## All edits, by crate\n\nThere are {len(found)} edits, of which the gate tries {by_gate}."]
+    lines = [f"There are {len(found)} edits, of which the gate tries {by_gate}."]
     for crate in sorted({it[0] for it in found}):
         lines += [f"\n### {crate}\n", "| Edit | What the wrong body does | Tried by |", "|---|---|---|"]
         lines += [f"| `{name}` | {reason} | {tried} |" for of, name, reason, tried in found if of == crate]
-    return text_of(f"{ROOT}/bench/edits/head.md") + "\n" + "\n".join(lines) + "\n"
+    return "\n".join(lines)
 
 
 def main():
     found = edits()
     there = {f"{crate}/{name}" for crate, name, *_ in found}
-    named = re.findall(r"`(vc_\w+/\w+)`", text_of(f"{ROOT}/bench/edits/head.md"))
+    named = re.findall(r"`(vc_\w+/\w+)`", text_of(PAGE).split("## Wrong programs")[1])
     told = [f"{crate}/{name}: its first line does not say what it does" for crate, name, reason, _ in found if not reason]
-    told += [f"bench/edits/head.md: {it} is no edit" for it in named if it not in there]
+    told += [f"docs/PROOF.md: {it} is no edit" for it in named if it not in there]
     told += untaken()
-    if "--write" in sys.argv and not told:
-        with open(PAGE, "w", encoding="utf-8") as it:
-            it.write(page(found))
-    elif not told and text_of(PAGE) != page(found):
-        told.append("docs/WRONG_BODIES.md is not that of the files: bench/wrong_bodies.py --write")
+    if "--list" in sys.argv:
+        print(table(found))
     print("\n".join([*told, f"{len(found)} edits, {len(told)} faults"]))
     return 1 if told else 0
 

@@ -63,7 +63,7 @@ impl Way {
     }
 
     /// Takes the front token off. One that stands alone is taken from the end, so that the ring's head stays where it is. While tokens come
-    /// one by one the ring does not wrap around, and its two branches on that go the same way each time (docs/lab).
+    /// one by one the ring does not wrap around, and its two branches on that go the same way each time (bench/lab).
     #[inline(always)]
     pub(crate) fn take_front(&mut self) -> Token
         requires { self.old ≢ [] }

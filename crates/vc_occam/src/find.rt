@@ -255,7 +255,7 @@ fn place_by_length(tasks: &[Task<Frame>], site: u16) -> usize {
 }
 
 /// How often a number holds a length; 0 where the length is 0. What is read at that place waits for it, and a division takes longer than
-/// a multiplication (docs/lab).
+/// a multiplication (bench/lab).
 fn quotient(number: u16, length: u16) -> usize {
     match INVERSES.get(usize::from(length)) {
         Some(inverse) => ((u64::from(number) * u64::from(*inverse)) >> 31) as usize,
