@@ -1,0 +1,9 @@
+pub mod Alone
+pub mod Commuting
+pub mod Meeting
+pub mod NoChoices
+pub mod OneEnd
+pub mod OneKind
+pub mod Reached
+pub mod Reduction
+pub mod Searching

@@ -1,0 +1,5 @@
+pub mod Choices
+pub mod Private
+pub mod Program
+pub mod Search
+pub mod SiteSteps
