@@ -1,5 +1,6 @@
 -- What was written, together.
-use Rattle.std.proofs.Common.{◌≡◌, ℕ, Bool, List, Option, Result, Ok, Err, ⊤, sym, subst}
+use Rattle.std.proofs.Common.{◌≡◌, ℕ, Bool, List, Option, Result, Ok, Err, sym, subst}
+use Rattle.std.specs.Bool.{⊤}
 use Rattle.vc_label_run.specs.Labels.{IsAnswer, Labels, WritesFor}
 use Rattle.vc_text.specs.Streams.{Writes}
 use Rattle.vc_text.specs.declared.fault.RunFault.{RunFault}

@@ -21,5 +21,5 @@ returns-in-Err-Network g c =
     let cause = c.in-Err-Network.cause in
     let text = c.in_ok-text.text.items in
     labels_of known _ _ false (cause_text cause) _
-    (cause, (text, c.in_ok-text.ensures.all, subst (λ t. IsRefusal t (refused.Network cause)) c.as_slice.ensures.value c.in-Err-Network.ensures.refused), refl)
+    (cause, (text, c.in_ok-text.ensures.all, subst (IsRefusal text) c.in-Err-Network.field-0-is (subst (λ t. IsRefusal t c.in-Err-Network.field-0) c.as_slice.ensures.value c.in-Err-Network.ensures.refused)), refl)
     c.write_cause.ensures
