@@ -1,8 +1,8 @@
 #!/usr/bin/env python3
 """Makes docs/vcnet.1, the page of `man`, of the texts that vcnet prints for --help: bench/man.py [--write].
 
-The texts stand in crates/vc_words/src/definition.rt, where clap is told of the command line. Without --write it fails where the page is
-other than what they make, or where it finds no text for a subcommand; with --write it writes the page. `man -l docs/vcnet.1` shows it.
+The texts are in crates/vc_words/src/definition.rt, which describes the command line to clap. Without --write it fails if the page is
+other than what they make; with --write it writes the page. `man -l docs/vcnet.1` shows it.
 
 Made with rattle-kit-13f, logic dac8208d650f15bf.
 """
@@ -57,27 +57,28 @@ def options(function, source):
 
 
 def commands(source):
-    """The program and then each subcommand, as --help lists them: its name, what it is about, the paragraphs behind that, its options."""
+    """The program and then each subcommand, as --help lists them: its name, what it is about, the paragraphs after that, its options."""
     named, found = constants(source), {}
     for function in re.split(r"\n(?=(?:pub\(crate\) )?fn )", source):
-        made = re.findall(rf"Command::new\(alloc, {TEXT}\)\s*\.about\({TEXT}\)\s*\.after_help\((\w+)\)", function)
-        if function.count("Command::new(") != len(made):
-            sys.exit(f"{SOURCE}: a command without its texts: {function[:60]}..")
-        for name, about, behind in made:
-            found[name] = (name, about, named[behind].split("\n\n"), options(function, source) if len(made) == 1 else [])
+        abouts = dict(re.findall(rf"let (\w*about) = {TEXT};", function))
+        made = [(name, abouts[about], after) for name, about, after in re.findall(rf"network_command\(alloc, {TEXT}, (\w+), (\w+)\)", function)]
+        rows = options(function, source) if len(made) == 1 else []
+        program = re.findall(rf"Command::new\(alloc, {TEXT}\)\s*\.about\({TEXT}\)\s*\.after_help\((\w+)\)", function)
+        for name, about, after in made + program:
+            found[name] = (name, about, named[after].split("\n\n"), rows)
     listed = re.findall(r"\.subcommand\((\w+?)(?:_definition\(alloc\)\?)?\)", source)
     return [found[name] for name in ("vcnet", *listed)]
 
 
 def roff(text):
-    """The text as man reads it: what stands between backticks is bold."""
+    """The text as man reads it: what is between backticks is bold."""
     text = text.replace("\\", "\\e").replace("-", "\\-")
     text = re.sub(r"`([^`]*)`", r"\\fB\1\\fR", text)
     return re.sub(r"^([.'])", r"\\&\1", text, flags=re.M)
 
 
 def part(paragraphs, word):
-    """What stands behind this word at the head of one of the paragraphs."""
+    """What follows this word at the head of one of the paragraphs."""
     return next((it.removeprefix(f"{word}: ") for it in paragraphs if it.startswith(f"{word}: ")), "")
 
 
@@ -91,18 +92,18 @@ def spelled(option, takes):
 
 def synopsis(name, rows):
     words = "".join(f" {spelled(*it[:2])}" if it[1] == "FILE" else f" [{spelled(*it[:2])}]" for it in rows)
-    return bold(f"vcnet {name}") + words + r" < \fInetwork\fR"
+    return bold(f"vcnet {name}") + words + r" [\fIFILE\fR]"
 
 
 def numbers_of(numbers, usual):
-    """Which numbers an option takes, and what it is where it is not written."""
+    """Which numbers an option takes, and what it is if it is not written."""
     if not numbers:
         return ""
-    return f" ({numbers}; {int(usual):,} where it is not given)" if usual is not None else f" ({numbers})"
+    return f" ({numbers}; {int(usual):,} if it is not given)" if usual is not None else f" ({numbers})"
 
 
 def entries(rows):
-    """A list of words, each with what stands behind it."""
+    """A list of words, each with what follows it."""
     return [line for head, text in rows for line in (".TP", head, text)]
 
 

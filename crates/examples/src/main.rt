@@ -12,7 +12,7 @@ use std::rt::Files;
 use std::sync::Wait;
 use std::thread::Threads;
 use std::{fs, io};
-use vc_words::{EventFiles, Meter, run_words};
+use vc_words::{Meter, NamedFiles, run_words};
 
 /// The file that names the examples.
 const INDEX: &str = "index.txt";
@@ -53,7 +53,7 @@ fn example_of(alloc: Global, line: &str) -> Result<Option<Example<'_>>, AllocErr
 }
 
 /// Whether the example's words write what its file has, and end with its status.
-fn holds<R: EventFiles + Files + Alloc + Threads + Wait + Sync>(
+fn holds<R: NamedFiles + Files + Alloc + Threads + Wait + Sync>(
     rt: &R,
     alloc: Global,
     example: &Example<'_>,

@@ -5,6 +5,8 @@
 #[cfg(test)]
 mod event_lists;
 #[cfg(test)]
+mod files;
+#[cfg(test)]
 mod limits;
 #[cfg(test)]
 mod line;
@@ -16,8 +18,6 @@ mod networks;
 mod order;
 #[cfg(test)]
 mod readers;
-#[cfg(test)]
-mod replays;
 #[cfg(test)]
 mod streams;
 #[cfg(test)]

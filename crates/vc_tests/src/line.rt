@@ -6,7 +6,7 @@ use std::sync::Wait;
 use std::thread::Threads;
 use vc_stats::Form;
 use vc_text::{Schedule, StepOptions, ThreadOptions};
-use vc_words::{Account, EventFiles, Line, LineFault, Meter, command, run_words};
+use vc_words::{Account, Line, LineFault, Meter, NamedFiles, command, run_words};
 
 /// How `step` runs a network where the words say nothing.
 const USUAL: StepOptions = StepOptions {
@@ -126,7 +126,7 @@ fn command_lines_ask(rt: HostRuntime) {
 }
 
 /// Whether the program prints the traffic of the hello network with status 0, or that memory is short with status 4.
-fn prints<T: EventFiles + Threads + Wait + Sync>(rt: &T, alloc: Global) -> bool {
+fn prints<T: NamedFiles + Threads + Wait + Sync>(rt: &T, alloc: Global) -> bool {
     let mut kept = Kept::new();
     let status = run_words(
         rt,

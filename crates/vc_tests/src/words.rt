@@ -4,12 +4,12 @@ use crate::streams::{Failing, Stubborn};
 use std::alloc::Global;
 use std::sync::Wait;
 use std::thread::Threads;
-use vc_words::{EventFiles, Meter, run_words};
+use vc_words::{Meter, NamedFiles, run_words};
 
 const STEP: &[&str] = &["vcnet", "step"];
 
 /// The status and what is printed, where the reader fails at the read of that number.
-fn read_fails<T: EventFiles + Threads + Wait + Sync>(
+fn read_fails<T: NamedFiles + Threads + Wait + Sync>(
     rt: &T,
     alloc: Global,
     words: &[&str],
@@ -62,7 +62,7 @@ fn a_failed_read_is_a_fault(rt: HostRuntime) {
 }
 
 /// Whether the status is 6, and a front of the traffic is printed, where the writer fails at the write of that number.
-fn write_fails<T: EventFiles + Threads + Wait + Sync>(
+fn write_fails<T: NamedFiles + Threads + Wait + Sync>(
     rt: &T,
     alloc: Global,
     calls_left: usize,

@@ -11,7 +11,6 @@
 #![tactic(auto)]
 
 mod escape;
-mod event_files;
 mod event_line;
 mod event_reader;
 mod event_text;
@@ -19,6 +18,7 @@ mod fields;
 mod line;
 mod line_buffer;
 mod move_verb;
+mod named_files;
 mod names;
 mod number;
 mod output;
@@ -31,7 +31,7 @@ mod verb;
 mod word;
 mod words;
 
-pub use event_files::{EventFile, EventFiles};
+pub use named_files::{NamedFile, NamedFiles};
 pub use replay::run_replay;
 pub use replayed::Replayed;
 pub use step_run::trace_step;

@@ -10,9 +10,9 @@ ghost use Rattle.vc_trace.specs.Replay.{EndsEvents, Replays, ReplaysPlan, refuse
 ghost use Rattle.vc_trace.specs.Private.Replay.{MakesEvents, MakesLine};
 
 use crate::escape::push_line;
-use crate::event_files::{EventFile, EventFiles};
 use crate::event_reader::EventReader;
 use crate::line::{Line, read_line};
+use crate::named_files::{NamedFile, NamedFiles};
 use crate::refused_line::RefusedLine;
 use crate::replayed::Replayed;
 use std::alloc::Global;
@@ -191,10 +191,10 @@ fn replay_plan<E: Read, W: Write>(
 ///
 /// The call fails if a reader or the writer fails, if the network is refused, and when out of memory. Nothing is written then, but by a
 /// writer that fails, which has got a prefix of the text.
-pub fn run_replay<R: Read, F: EventFiles, W: Write>(
+pub fn run_replay<R: Read, F: NamedFiles, W: Write>(
     alloc: Global,
     reader: &mut R,
-    file: EventFile<'_, F>,
+    file: NamedFile<'_, F>,
     writer: &mut W,
     is_why: bool,
     meter: &Meter,
@@ -205,7 +205,7 @@ pub fn run_replay<R: Read, F: EventFiles, W: Write>(
         (W.contents writer.old) (W.contents writer.new) result }
 {
     let accepted = read_accepted(alloc, reader)?;
-    let Some(mut events) = file.files.open_events(file.name) else {
+    let Some(mut events) = file.files.open_named(file.name) else {
         return Ok(Replayed::NoEvents);
     };
     replay_plan(alloc, &accepted, &mut events, writer, is_why, meter)

@@ -3,4 +3,4 @@ pub mod Questions
 pub mod Examples
 pub mod Flags
 pub mod Commands
-pub mod EventNames
+pub mod ArgumentTexts

@@ -29,7 +29,7 @@ use Rattle.vc_words.specs.declared.line_fault.LineFault.TheVariants.{Bad, Memory
 use Rattle.vc_words.specs.declared.progress.Progress.{Progress}
 use Rattle.vc_words.specs.declared.progress.Unit.TheVariants.{Events as EventsMade, Turns as TurnsMade}
 
--- an option `--name N`, which numbers it takes, and what it is where it is not written
+-- an option `--name N`, which numbers it takes, and what it is if it is not written
 abbrev pub option_of : Text → ValueParser → Text → Rule
 option_of name numbers usual =
     record (new_rule name) { long = Some name; value_names = 1; parser = Some numbers; defaults = usual ∷ [] }
@@ -85,21 +85,28 @@ turns_option = option_of (codes "turns") (Unsigned 0 1000000000) (codes "1000000
 abbrev pub seed_option : Rule
 seed_option = option_of (codes "seed") (Signed (pos 0) (pos 4294967295)) (codes "0")
 
--- the subcommands, one of which is wanted
+-- the argument FILE, which may be left out
+abbrev pub file_rule : Rule
+file_rule = record (new_rule (codes "file")) { value_names = 1 }
+
+-- the subcommands, one of which is wanted: each takes a FILE, and these options
+abbrev pub subcommand_of_rules : Text → List Rule → Shape
+subcommand_of_rules name options = record (new_shape name) { rules = file_rule ∷ options }
+
 abbrev pub check_shape : Shape
-check_shape = new_shape (codes "check")
+check_shape = subcommand_of_rules (codes "check") []
 
 abbrev pub explain_shape : Shape
-explain_shape = new_shape (codes "explain")
+explain_shape = subcommand_of_rules (codes "explain") []
 
 abbrev pub deadlock_shape : Shape
-deadlock_shape = new_shape (codes "deadlock")
+deadlock_shape = subcommand_of_rules (codes "deadlock") []
 
 abbrev pub label_shape : Shape
-label_shape = new_shape (codes "label")
+label_shape = subcommand_of_rules (codes "label") []
 
 abbrev pub draw_shape : Shape
-draw_shape = record (new_shape (codes "draw")) { rules = after_option ∷ [] }
+draw_shape = subcommand_of_rules (codes "draw") (after_option ∷ [])
 
 -- whether the progress of a run is shown
 abbrev pub progress_flags : List Rule
@@ -110,13 +117,13 @@ abbrev pub run_flags : List Rule
 run_flags = why_flag ∷ trace_flag ∷ stats_flag ∷ json_flag ∷ progress_flags
 
 abbrev pub step_shape : Shape
-step_shape = record (new_shape (codes "step")) { rules = limit_option ∷ schedule_option ∷ together_flag ∷ run_flags }
+step_shape = subcommand_of_rules (codes "step") (limit_option ∷ schedule_option ∷ together_flag ∷ run_flags)
 
 abbrev pub run_shape : Shape
-run_shape = record (new_shape (codes "run")) { rules = turns_option ∷ seed_option ∷ run_flags }
+run_shape = subcommand_of_rules (codes "run") (turns_option ∷ seed_option ∷ run_flags)
 
 abbrev pub replay_shape : Shape
-replay_shape = record (new_shape (codes "replay")) { rules = events_option ∷ why_flag ∷ progress_flags }
+replay_shape = subcommand_of_rules (codes "replay") (events_option ∷ why_flag ∷ progress_flags)
 
 abbrev pub vcnet : App
 vcnet =
@@ -124,7 +131,7 @@ vcnet =
     (on_top (λ s. record s { subcommand_required = true; has_version = true }) (new_app (codes "vcnet")))
     check_shape) explain_shape) deadlock_shape) draw_shape) step_shape) run_shape) replay_shape) label_shape
 
--- the number that a text is, where it is one of at most `most`
+-- the number that a text is, if it is one of at most `most`
 abbrev pub number_in : ℕ → Text → Option ℕ
 number_in most text =
     let digits = without_leading_plus text in
@@ -135,7 +142,7 @@ number_in most text =
 abbrev pub number_of : Text → ℕ → ℕ → List Row → ℕ
 number_of id most usual rows = unwrap_or (option_and_then (number_in most) (one_of id rows)) usual
 
--- and none where there is none
+-- and none if there is none
 abbrev pub number_at : Text → ℕ → List Row → Option ℕ
 number_at id most rows = option_and_then (number_in most) (one_of id rows)
 
@@ -163,7 +170,7 @@ thread_options_of rows = record {
   is_why = has_flag (codes "why") rows;
 }
 
--- what is written of a run: where the events are asked for, these and the traffic alone
+-- what is written of a run: if the events are asked for, these and the traffic alone
 abbrev pub account_of : List Row → Account
 account_of rows =
     if has_flag (codes "trace") rows then Events
@@ -180,7 +187,7 @@ line_of (name, rows) =
     else (if bytes_eq name (codes "explain") then Explain
     else (if bytes_eq name (codes "deadlock") then Deadlock else (if bytes_eq name (codes "label") then Label else Check))))))
 
--- the kinds of fault that the words have: none where they are a command line
+-- the kinds of fault that the words have: none if they are a command line
 abbrev pub faults : List Text → Kinds
 faults = fault_of vcnet
 
@@ -188,9 +195,17 @@ faults = fault_of vcnet
 abbrev pub Asks : List Text → Line → Type 0
 Asks words line = (faults words ≡ []) × (option_map line_of (subcommand_of vcnet words) ≡ Some line)
 
+-- the text that they have for an argument of the subcommand
+abbrev pub text_in : Text → List Text → Option Text
+text_in id words = option_and_then (λ found. first_of id found.1) (subcommand_of vcnet words)
+
 -- they name this file of events
 abbrev pub NamesEvents : List Text → Text → Type 0
-NamesEvents words name = option_and_then (λ found. first_of (codes "events") found.1) (subcommand_of vcnet words) ≡ Some name
+NamesEvents words name = text_in (codes "events") words ≡ Some name
+
+-- they name this network file, or none
+abbrev pub NamesNetwork : List Text → Option Text → Type 0
+NamesNetwork words name = text_in (codes "file") words ≡ name
 
 -- what is counted of a run while it goes on, and its limit
 abbrev pub counted_of : Line → Option Progress
@@ -220,12 +235,12 @@ status_of_kind DisplayHelp = 0
 status_of_kind DisplayVersion = 0
 status_of_kind kind = 5
 
--- a fault of this kind, as it is told, or want of memory
+-- a fault of this kind, as it is reported, or being out of memory
 abbrev pub IsToldAs : ErrorKind → LineFault → Type 0
 IsToldAs kind Memory = ⊤
 IsToldAs kind (Bad text status) = (kind ≢ OutOfMemory) × (status ≡ status_of_kind kind)
 
--- a fault of one of these kinds, or want of memory
+-- a fault of one of these kinds, or being out of memory
 abbrev pub IsFaultOf : Kinds → LineFault → Type 0
 IsFaultOf kinds Memory = ⊤
 IsFaultOf kinds (Bad text status) = (kind : ErrorKind) × IsAmong kind kinds × (status ≡ status_of_kind kind)

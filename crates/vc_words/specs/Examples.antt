@@ -1,11 +1,11 @@
 -- Some command lines, and what they ask for.
 use Rattle.std.specs.Prelude.{◌≡◌, true, false, Some, None, List, [], ◌∷◌, codes}
 use Rattle.clap.specs.Walk.{Text}
-use Rattle.clap.specs.declared.error.kind.ErrorKind.TheVariants.{DisplayHelp, DisplayVersion, MissingRequiredArgument, ValueValidation}
+use Rattle.clap.specs.declared.error.kind.ErrorKind.TheVariants.{DisplayHelp, DisplayVersion, MissingRequiredArgument, UnknownArgument, ValueValidation}
 use Rattle.vc_text.specs.declared.schedule.Schedule.TheVariants.{InTurn, Random}
 use Rattle.vc_text.specs.declared.step_options.StepOptions.{StepOptions}
 use Rattle.vc_text.specs.declared.thread_options.ThreadOptions.{ThreadOptions}
-use Rattle.vc_words.specs.CommandLine.{Asks, faults}
+use Rattle.vc_words.specs.CommandLine.{Asks, NamesNetwork, faults}
 use Rattle.vc_stats.specs.declared.form.Form.TheVariants.{Lines}
 use Rattle.vc_words.specs.declared.account.Account.TheVariants.{Traffic, Events, Counts}
 use Rattle.vc_words.specs.declared.line.Line.TheVariants.{Check, Explain, Deadlock, Label, Draw, Step, Run, Replay}
@@ -14,7 +14,7 @@ use Rattle.vc_words.specs.declared.line.Line.TheVariants.{Check, Explain, Deadlo
 abbrev pub line : List Text → List Text
 line words = codes "vcnet" ∷ words
 
--- how a network is run where the words say nothing
+-- how a network is run if the words say nothing
 abbrev usual : StepOptions
 usual = record { limit = 1000000; schedule = InTurn; is_together = false; is_why = false }
 
@@ -38,6 +38,10 @@ pub record LinesAreRead : Type 0 where
   pub run_trace : Asks (line (codes "run" ∷ codes "--trace" ∷ [])) (Run usual_threads Events)
   pub stats : Asks (line (codes "step" ∷ codes "--stats" ∷ [])) (Step usual (Counts Lines))
   pub replay : Asks (line (codes "replay" ∷ codes "--events" ∷ codes "a" ∷ [])) (Replay false)
+  pub file : Asks (line (codes "check" ∷ codes "a.json" ∷ [])) Check
+  pub named : NamesNetwork (line (codes "step" ∷ codes "a.json" ∷ codes "--why" ∷ [])) (Some (codes "a.json"))
+  pub unnamed : NamesNetwork (line (codes "step" ∷ codes "--why" ∷ [])) None
+  pub two_files : faults (line (codes "check" ∷ codes "a.json" ∷ codes "b.json" ∷ [])) ≡ UnknownArgument ∷ []
   pub no_events : faults (line (codes "replay" ∷ [])) ≡ MissingRequiredArgument ∷ []
   pub help : faults (line (codes "--help" ∷ [])) ≡ DisplayHelp ∷ []
   pub version : faults (line (codes "--version" ∷ [])) ≡ DisplayVersion ∷ []

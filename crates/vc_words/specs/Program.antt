@@ -29,8 +29,9 @@ use Rattle.vc_words.specs.declared.account.Account.TheVariants.{Traffic, Events,
 use Rattle.clap.specs.Walk.{Text}
 use Rattle.clap.specs.Kinds.{IsAmong}
 use Rattle.clap.specs.declared.error.kind.ErrorKind.{ErrorKind}
+use Rattle.vc_words.specs.declared.line.Line.{Line}
 use Rattle.vc_words.specs.declared.line.Line.TheVariants.{Check, Explain, Deadlock, Label, Draw, Step, Run, Replay}
-use Rattle.vc_words.specs.CommandLine.{Asks, NamesEvents, faults, status_of_kind}
+use Rattle.vc_words.specs.CommandLine.{Asks, IsInRange, NamesEvents, NamesNetwork, faults, status_of_kind}
 use Rattle.vc_words.specs.Status.{status_of_acceptance, status_of_fault, status_of_freedom, status_of_end, status_of_replay}
 
 -- the status that was wanted, or that of a fault in writing
@@ -109,7 +110,7 @@ RunsNetwork options account known old new status =
     ((ending : Ending) × RunsThreads old new (Ok ending) × (status ≡ status_of_end ending.close))
     ⊎ ((fault : RunFault) × (mid : Option (List ℕ)) × RunsThreads old mid (Err fault) × TellsFault mid new fault status)
 
--- what is known of the files of events: which bytes one of this name may have, and whether it may be that none can be opened
+-- what is known of files: which bytes one of this name may have, and whether it may be that it can't be opened
 pub record Files : Type 1 where
   pub holds : Text → Option (List ℕ) → Type 0
   pub fails : Text → Type 0
@@ -122,8 +123,7 @@ events_fault = codes "fault events" ++ 10 ∷ []
 abbrev pub no_text_fault : List ℕ
 no_text_fault = codes "error: the command line is no UTF-8" ++ 10 ∷ []
 
--- The events of a file are made in the network that the reader had, or a fault of that is told. Where the file can't be opened, that is
--- told.
+-- The events of a file are made in the network that the reader had, or a fault of that is told, or that the file can't be opened.
 abbrev pub ReplaysFile : (is_why : Bool) → (Option (List ℕ) → Type 0) → Type 0 → Option (List ℕ) → Option (List ℕ) → Option (List ℕ) → ℕ → Type 0
 ReplaysFile is_why Holds Fails known old new status =
     let Makes = Replays is_why known Holds Fails in
@@ -137,27 +137,37 @@ ReplaysNetwork files words is_why known old new status =
     ((name : Text) × NamesEvents words name × ReplaysFile is_why (files.holds name) (files.fails name) known old new status)
     ⊎ TellsFault old new Memory status
 
--- what is wrong with the words, or the help that they ask for, is told, or want of memory
+-- what is wrong with the words, or the help that they ask for, is told, or that memory is out
 abbrev pub TellsLine : List Text → Option (List ℕ) → Option (List ℕ) → ℕ → Type 0
 TellsLine words old new status =
     ((text : List ℕ) × (kind : ErrorKind) × IsAmong kind (faults words) × Tells old new text (status_of_kind kind) status)
     ⊎ TellsFault old new Memory status
 
--- What the words ask for is done, with these files of events: the reader's bytes before and after, the writer's, and the status. A line
--- that is told reads nothing.
+-- what a line asks for is done with the network of these bytes
+abbrev pub Does : Files → List Text → Line → Option (List ℕ) → Option (List ℕ) → Option (List ℕ) → ℕ → Type 0
+Does files words Check known old new status = ChecksNetwork known old new status
+Does files words Explain known old new status = ExplainsNetwork known old new status
+Does files words Deadlock known old new status = FindsDeadlock known old new status
+Does files words Label known old new status = LabelsNetwork known old new status
+Does files words (Draw after) known old new status = DrawsNetwork after known old new status
+Does files words (Step options account) known old new status = StepsNetwork options account known old new status
+Does files words (Run options account) known old new status = RunsNetwork options account known old new status
+Does files words (Replay is_why) known old new status = ReplaysNetwork files words is_why known old new status
+
+-- the network file can't be opened
+abbrev pub file_fault : List ℕ
+file_fault = codes "fault file" ++ 10 ∷ []
+
+-- it is done with the network of the file of this name, or it is told that the file can't be opened
+abbrev pub DoesFile : Files → List Text → Line → Text → Option (List ℕ) → Option (List ℕ) → ℕ → Type 0
+DoesFile files words line name old new status =
+    ((bytes : Option (List ℕ)) × files.holds name bytes × Does files words line bytes old new status)
+    ⊎ (files.fails name × Tells old new file_fault 6 status)
+
+-- What the words ask for is done, with these files: the reader's bytes before and after, the writer's, and the status. The network is that
+-- of the file that the words name, or of the reader if they name none. A line that is told, or that names a file, does not read the reader.
 pub data Runs (files : Files) (words : List Text) (known rest old new : Option (List ℕ)) (status : ℕ) : Type 0 where
-  checks : Asks words Check → ChecksNetwork known old new status → Runs files words known rest old new status
-  explains : Asks words Explain → ExplainsNetwork known old new status → Runs files words known rest old new status
-  finds : Asks words Deadlock → FindsDeadlock known old new status → Runs files words known rest old new status
-  labels : Asks words Label → LabelsNetwork known old new status → Runs files words known rest old new status
-  draws : (after : Option ℕ) → Asks words (Draw after) → DrawsNetwork after known old new status → Runs files words known rest old new status
-  steps : (options : StepOptions) (account : Account) → options.limit ≤ 1000000000 → Asks words (Step options account)
-      → StepsNetwork options account known old new status
-      → Runs files words known rest old new status
-  runs : (options : ThreadOptions) (account : Account) → options.turns ≤ 1000000000 → Asks words (Run options account)
-      → RunsNetwork options account known old new status
-      → Runs files words known rest old new status
-  replays : (is_why : Bool) → Asks words (Replay is_why)
-      → ReplaysNetwork files words is_why known old new status
+  reads : (line : Line) → Asks words line → IsInRange line → NamesNetwork words None → Does files words line known old new status → Runs files words known rest old new status
+  opens : (line : Line) (name : Text) → Asks words line → IsInRange line → NamesNetwork words (Some name) → rest ≡ known → DoesFile files words line name old new status
       → Runs files words known rest old new status
   tells : rest ≡ known → TellsLine words old new status → Runs files words known rest old new status

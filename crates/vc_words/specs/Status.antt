@@ -11,7 +11,7 @@ use Rattle.vc_trace.specs.declared.replayed.Replayed.TheVariants.{Ended, Refused
 use Rattle.vc_text.specs.declared.fault.RunFault.{RunFault}
 use Rattle.vc_text.specs.declared.fault.RunFault.TheVariants.{Read, Write, Text, Plan, Threads, Memory}
 
--- 2 for a text or a plan that is refused, but 4 for want of memory
+-- 2 for a text or a plan that is refused, but 4 when out of memory
 abbrev pub status_of_text : ReadRefused → ℕ
 status_of_text read.Memory = 4
 status_of_text refused = 2
@@ -29,17 +29,17 @@ status_of_fault (Plan refusal) = status_of_check refusal.why
 status_of_fault (Threads why) = 4
 status_of_fault Memory = 4
 
--- 0 where the network is accepted, and 2 where it is refused
+-- 0 if the network is accepted, and 2 if it is refused
 abbrev pub status_of_acceptance : Bool → ℕ
 status_of_acceptance true = 0
 status_of_acceptance false = 2
 
--- 0 where the dependencies have no cycle, and 1 where one is shown
+-- 0 if the dependencies have no cycle, and 1 if one is shown
 abbrev pub status_of_freedom : Bool → ℕ
 status_of_freedom true = 0
 status_of_freedom false = 1
 
--- 0 where every process has ended, 1 where the network is quiet, 3 for a limit, 4 for want of memory
+-- 0 if every process has ended, 1 if the network is quiet, 3 for a limit, 4 when out of memory
 abbrev pub status_of_end : Close → ℕ
 status_of_end Done = 0
 status_of_end Quiet = 1
@@ -48,7 +48,7 @@ status_of_end GateClosed = 3
 status_of_end ClockFull = 3
 status_of_end (Failed actor) = 4
 
--- that of the end of a run, 2 for an event that is refused, and 6 where the file of events can't be opened
+-- that of the end of a run, 2 for an event that is refused, and 6 if the file of events can't be opened
 abbrev pub status_of_replay : Replayed → ℕ
 status_of_replay (Ended close) = status_of_end close
 status_of_replay Refused = 2

@@ -1,8 +1,8 @@
 //! What the words of a command line ask for.
-ghost use Rattle.std.specs.Prelude.{◌≡◌, ◌≤◌, IfOk, IfErr, IfSome};
+ghost use Rattle.std.specs.Prelude.{◌≡◌, ◌≤◌, IfOk, IfErr, IfSome, option_map};
 ghost use Rattle.clap.specs.Words.{found_of, kind_of, rows_of, subcommand_rows_of};
 ghost use Rattle.clap.specs.Walk.{texts};
-ghost use Rattle.vc_words.specs.CommandLine.{account_of, has_flag, line_of as line_for, number_at, number_of, schedule_of, step_options_of, thread_options_of, faults, Asks, counted_of, progress_of, shows_progress, HasFound, IsFaultOf, IsInRange, IsToldAs, NamesEvents};
+ghost use Rattle.vc_words.specs.CommandLine.{account_of, has_flag, line_of as line_for, number_at, number_of, schedule_of, step_options_of, thread_options_of, faults, Asks, counted_of, progress_of, shows_progress, HasFound, IsFaultOf, IsInRange, IsToldAs, NamesEvents, NamesNetwork, text_in as text_of_argument};
 
 use crate::account::Account;
 use crate::definition::definition;
@@ -18,10 +18,10 @@ use vc_text::{Schedule, StepOptions, ThreadOptions};
 /// The most events of a run, and the most turns of each thread, that a line may allow.
 const MOST: u64 = 1_000_000_000;
 
-/// How many events a run is allowed where the line says nothing.
+/// How many events a run is allowed if the line says nothing.
 const USUAL_EVENTS: u64 = 1_000_000;
 
-/// How many turns each thread is allowed where the line says nothing.
+/// How many turns each thread is allowed if the line says nothing.
 const USUAL_TURNS: u64 = 10_000_000;
 
 /// The status for a bad command line.
@@ -180,13 +180,40 @@ pub fn command(alloc: Global, words: &[&str]) -> Result<Line, LineFault>
     Ok(line_of(&matches))
 }
 
+/// The text that the words have for an argument of their subcommand, or None if they have none.
+fn text_in<'a>(alloc: Global, words: &'a [&'a str], id: &str) -> Result<Option<&'a str>, LineFault>
+    ensures text { IfOk result
+        (λ text. option_map (λ t. t.now) text ≡ text_of_argument id.now (texts words.now)) }
+    ensures faults { IfErr result (IsFaultOf (faults (texts words.now))) }
+{
+    let matches = matches_of(alloc, words)?;
+    match matches.subcommand() {
+        Some((_, found)) => Ok(found.get_str(id)),
+        None => Ok(None),
+    }
+}
+
 /// The file of events that the words of a replay name.
 pub(crate) fn events_of<'a>(alloc: Global, words: &'a [&'a str]) -> Option<&'a str>
     ensures { IfSome result (λ name. NamesEvents (texts words.now) name.now) }
 {
-    let matches = matches_of(alloc, words).ok()?;
-    let (_, found) = matches.subcommand()?;
-    found.get_str("events")
+    text_in(alloc, words, "events").ok()?
+}
+
+/// The network file that the words name, or None if they name none.
+///
+/// # Errors
+///
+/// The call fails with one of the faults of words that are no command line, and when out of memory.
+pub(crate) fn network_of<'a>(
+    alloc: Global,
+    words: &'a [&'a str],
+) -> Result<Option<&'a str>, LineFault>
+    ensures file { IfOk result
+        (λ name. NamesNetwork (texts words.now) (option_map (λ n. n.now) name)) }
+    ensures faults { IfErr result (IsFaultOf (faults (texts words.now))) }
+{
+    text_in(alloc, words, "file")
 }
 
 /// What is counted of the run that a line asks for, and its limit, or None if the line asks for no run.

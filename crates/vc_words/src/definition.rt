@@ -1,11 +1,11 @@
 //! What `clap` is told of the command line.
 ghost use Rattle.std.specs.Prelude.{◌≡◌, false, IfOk};
-ghost use Rattle.clap.specs.Words.{app_of};
+ghost use Rattle.clap.specs.Words.{app_of, new_app, with_rule};
 ghost use Rattle.clap.specs.Walk.{rule_of};
 ghost use Rattle.clap.specs.Simple.{shape_of};
 ghost use Rattle.clap.specs.declared.builder.command.Command.TheViews.{out-Command};
 ghost use Rattle.clap.specs.declared.builder.value_parser.ValueParser.TheVariants.{Unsigned};
-ghost use Rattle.vc_words.specs.CommandLine.{flag_of, needed_of, option_of, optional_of, draw_shape, replay_shape, run_shape, step_shape, vcnet};
+ghost use Rattle.vc_words.specs.CommandLine.{file_rule, flag_of, needed_of, option_of, optional_of, draw_shape, replay_shape, run_shape, step_shape, vcnet};
 
 use clap::builder::ValueParser;
 use clap::{Arg, ArgAction, Command, value_parser};
@@ -14,41 +14,40 @@ use std::alloc::{AllocError, Global};
 /// The version of the program and of all libraries.
 const VERSION: &str = "1.1.0";
 
-/// What stands at the end of the program's help.
+/// The end of the program's help.
 const PROGRAM_HELP: &str = "\
-Each subcommand reads one network, as JSON, from standard input (docs/FORMAT.md), and writes to standard output. Write `vcnet step < FILE`, \
-and not `vcnet step FILE`.
+Each subcommand reads one network, as JSON (docs/FORMAT.md), from FILE, or from standard input if there is no FILE. It writes to standard output.
 
 Exit status: 0 done, accepted, free, drawn; 1 quiet, cycle; 2 refused; 3 a limit was reached; 4 no memory or no thread; 5 a bad command line; 6 a stream failed.
 
-Example: vcnet step < examples/hello.json";
+Example: vcnet step examples/hello.json";
 
-/// What stands at the end of the help of `check`.
+/// The end of the help of `check`.
 const CHECK_HELP: &str = "\
-Prints `accepted` with how many nodes, switches, virtual links and channels there are, or `refused` with the first fault.
+Prints `accepted` with the numbers of nodes, switches, virtual links and channels, or `refused` with the first fault.
 
 Exit status: 0 accepted; 2 refused; 4 no memory; 5 a bad command line; 6 a stream failed.
 
-Example: vcnet check < examples/squares.json";
+Example: vcnet check examples/squares.json";
 
-/// What stands at the end of the help of `explain`.
+/// The end of the help of `explain`.
 const EXPLAIN_HELP: &str = "\
-Prints, where the network is refused, the line that `check` prints, a sentence that says what to change, and the line and column of what is at \
-fault. Else it prints the line of `check`, what the network has, how many switches the packets of each virtual link pass, and the line of \
+If the network is refused, prints the line that `check` prints, a sentence that says what to change, and the line and column of what is at \
+fault. Otherwise prints the line of `check`, what the network has, how many switches the packets of each virtual link pass, and the line of \
 `deadlock`.
 
 Exit status: 0 accepted; 2 refused; 4 no memory; 5 a bad command line; 6 a stream failed.
 
-Example: vcnet explain < examples/squares.json";
+Example: vcnet explain examples/squares.json";
 
-/// What stands at the end of the help of `deadlock`.
+/// The end of the help of `deadlock`.
 const DEADLOCK_HELP: &str = "\
 Prints `free` if packets cannot come to wait for one another in a circle, or `cycle` with the links by which they might. It does not look at processes, \
 so a network with a cycle need not get stuck.
 
 Exit status: 0 free; 1 cycle; 2 refused; 4 no memory; 5 a bad command line; 6 a stream failed.
 
-Example: vcnet deadlock < examples/ring.json";
+Example: vcnet deadlock examples/ring.json";
 
 /// The end of the help of `label`.
 const LABEL_HELP: &str = "\
@@ -58,63 +57,65 @@ kinds and ends of channels, may be left out, too. Prints the whole file, which `
 
 Exit status: 0 labelled; 2 refused; 4 no memory; 5 a bad command line; 6 a stream failed.
 
-Example: vcnet label < examples/short/hello.json | vcnet step";
+Example: vcnet label examples/short/hello.json | vcnet step";
 
-/// What stands at the end of the help of `draw`.
+/// The end of the help of `draw`.
 const DRAW_HELP: &str = "\
-Prints the network for `dot`, a program of Graphviz, which makes a drawing of it: nodes as boxes, switches as ellipses, a line for each wire, \
-a dashed one for each virtual link with its channels, and a dotted one for each channel inside a node. With --after the labels show the state \
-after so many events of `step`: who waits for what, the tokens on the wires, and where the packets are.
+Prints the network as text for Graphviz's `dot`, which makes a drawing of it: nodes as boxes, switches as ellipses, a line for each wire, \
+a dashed line for each virtual link with its channels, and a dotted line for each channel inside a node. With --after the labels show the state \
+after N events of `step`: who waits for what, the tokens on the wires, and where the packets are.
 
 Exit status: 0 drawn; 2 refused; 4 no memory; 5 a bad command line; 6 a stream failed.
 
-Example: vcnet draw < examples/ring.json | dot -Tsvg > ring.svg";
+Example: vcnet draw examples/ring.json | dot -Tsvg > ring.svg";
 
-/// What stands at the end of the help of `replay`.
+/// The end of the help of `replay`.
 const REPLAY_HELP: &str = "\
 Makes each event of the file in turn, as `step --trace` and `run --trace` print them, and prints the traffic of the state that they lead to. The \
-events end where the traffic begins, and what stands from there on is not read. A line that is not that of an event that can happen then is \
-refused: its number and the line are printed. With --why each part of a process that waits or has stopped has a line behind the traffic, and \
-so has each packet.
+events end where the traffic begins, and the rest of the file is not read. A line that is not an event that can happen then is refused: its \
+number and the line are printed. With --why a line for each part of a process that waits or has stopped, and for each packet, follows the \
+traffic.
 
 Exit status: 0 done; 1 quiet; 2 refused; 3 more events can happen; 4 no memory; 5 a bad command line; 6 a stream failed, or the file can't be opened.
 
-Example: vcnet replay --events examples/hello.trace < examples/hello.json";
+Example: vcnet replay --events examples/hello.trace examples/hello.json";
 
-/// What stands at the end of the help of `step`.
+/// The end of the help of `step`.
 const STEP_HELP: &str = "\
-Prints what each channel carried, and how the run ended: `end done` where every process ended, `end quiet` where nothing can happen any more, \
-`end limit` where more events can happen. A number over one wire takes some 47 events; give a long run a greater --limit. With --why each \
-part of a process that waits or has stopped has a line behind these, and so has each packet. With --trace the events stand in front, one a line. \
-With --stats counts stand behind the traffic. A network can end in more than one way, as where an ALT has several guards or packets wait in a \
-circle: each --schedule N draws another run, guards and links too.
+Prints what each channel carried, and how the run ended: `end done` if every process ended, `end quiet` if nothing can happen any more, \
+`end limit` if more events can happen. A number over one wire takes some 47 events; give a long run a greater --limit. With --why a line for \
+each part of a process that waits or has stopped, and for each packet, follows. With --trace the events come first, one a line. With --stats \
+counts follow the traffic. A network can end in more than one way if an ALT has several guards or packets wait in a circle: each --schedule N \
+draws another run, guards and links too.
 
 Exit status: 0 done; 1 quiet; 2 refused; 3 limit; 4 no memory; 5 a bad command line; 6 a stream failed.
 
-Example: vcnet step --limit 100000000 < examples/sieve.json";
+Example: vcnet step --limit 100000000 examples/sieve.json";
 
-/// What stands at the end of the help of `run`.
+/// The end of the help of `run`.
 const RUN_HELP: &str = "\
-Starts a thread for each node and each switch. Prints what each channel carried, and how the run ended: `end done` where every process \
-ended, `end limit` where the threads used up their turns. A network that is quiet ends with `end limit`, too. With --why each part of a \
-process that waits or has stopped has a line behind these, and so has each packet. With --trace the events stand in front, one a line, in an \
-order in which they could have been made one after another. With --trace or --stats the run keeps its events until all threads have ended, 32 \
-bytes each.
+Starts a thread for each node and each switch. Prints what each channel carried, and how the run ended: `end done` if every process \
+ended, `end limit` if the threads used up their turns. A network that is quiet ends with `end limit`, too. With --why a line for each part of \
+a process that waits or has stopped, and for each packet, follows. With --trace the events come first, one a line, in an order in which they \
+could have been made one after another. With --trace or --stats the run keeps its events until all threads have ended, 32 bytes each.
 
 Exit status: 0 done; 2 refused; 3 limit; 4 no memory or no thread; 5 a bad command line; 6 a stream failed.
 
-Example: vcnet run --seed 7 < examples/universal.json";
+Example: vcnet run --seed 7 examples/universal.json";
+
+/// What the argument FILE is.
+const NETWORK: &str = "The network file; standard input if it is left out";
 
 /// What `--why` asks for.
-const WHY: &str = "Prints, behind the traffic, who waits for what and where the packets are";
+const WHY: &str = "Prints, after the traffic, who waits for what and where the packets are";
 
 /// What `--trace` asks for.
 const TRACE: &str =
-    "Prints the events of the run, a line each, in front of its traffic; --stats and --json add nothing then";
+    "Prints the events of the run, a line each, before its traffic; --stats and --json add nothing then";
 
 /// What `--stats` asks for.
 const STATS: &str =
-    "Prints, behind the traffic, how many events there were, by kind, actor, wire and channel";
+    "Prints, after the traffic, how many events there were, by kind, actor, wire and channel";
 
 /// What `--json` asks for.
 const JSON: &str =
@@ -163,7 +164,7 @@ fn file_option<'a>(alloc: Global, name: &'a str, help: &'a str) -> Arg<'a>
         .required(true)
 }
 
-/// An option `--name N`, which numbers it takes, and what it is where it is not written.
+/// An option `--name N`, which numbers it takes, and what it is if it is not written.
 fn number_option<'a>(
     alloc: Global,
     name: &'a str,
@@ -188,6 +189,31 @@ fn flag<'a>(alloc: Global, name: &'a str, help: &'a str) -> Arg<'a>
         .action(ArgAction::SetTrue)
 }
 
+/// The argument FILE, which may be left out.
+fn network_argument<'a>(alloc: Global) -> Arg<'a>
+    ensures rule { rule_of result ≡ file_rule }
+    ensures local { result.global ≡ false }
+{
+    Arg::new(alloc, "file").value_name("FILE").help(NETWORK)
+}
+
+/// A subcommand that reads a network, with its help and without its options.
+fn network_command<'a>(
+    alloc: Global,
+    name: &'a str,
+    about: &'a str,
+    help: &'a str,
+) -> Result<Command<'a>, AllocError>
+    ensures app { IfOk result
+        (λ c. app_of c ≡ with_rule (new_app name.entry.now) file_rule) }
+    ensures local { IfOk result (λ c. (out-Command c).has_globals ≡ false) }
+{
+    Command::new(alloc, name)
+        .about(about)
+        .after_help(help)
+        .arg(network_argument(alloc))
+}
+
 /// The subcommand that draws the network.
 fn draw_definition<'a>(alloc: Global) -> Result<Command<'a>, AllocError>
     ensures shape { IfOk result (λ c. shape_of c ≡ draw_shape) }
@@ -199,10 +225,8 @@ fn draw_definition<'a>(alloc: Global) -> Result<Command<'a>, AllocError>
         "Draws the network with its state after N events (0 to 1,000,000,000)",
         counts(),
     );
-    Command::new(alloc, "draw")
-        .about("Writes the network on standard input as Graphviz text")
-        .after_help(DRAW_HELP)
-        .arg(after)
+    let about = "Writes the network as Graphviz text";
+    network_command(alloc, "draw", about, DRAW_HELP)?.arg(after)
 }
 
 /// The subcommand that makes the events of a file.
@@ -215,9 +239,8 @@ fn replay_definition<'a>(alloc: Global) -> Result<Command<'a>, AllocError>
         "events",
         "Makes the events of this file, as --trace prints them",
     );
-    Command::new(alloc, "replay")
-        .about("Makes the events of a file in the network on standard input and prints its traffic")
-        .after_help(REPLAY_HELP)
+    let about = "Makes the events of a file in the network and prints its traffic";
+    network_command(alloc, "replay", about, REPLAY_HELP)?
         .arg(events)?
         .arg(flag(alloc, "why", WHY))?
         .arg(flag(alloc, "progress", PROGRESS))?
@@ -239,7 +262,7 @@ fn step_definition<'a>(alloc: Global) -> Result<Command<'a>, AllocError>
     let schedule = number_option(
         alloc,
         "schedule",
-        "Draws each event at random, the same for the same N, or makes them in turn where N is 0 (0 to 4,294,967,295)",
+        "Draws each event at random, the same for the same N, or makes them in turn if N is 0 (0 to 4,294,967,295)",
         value_parser!(u32),
         "0",
     );
@@ -248,9 +271,8 @@ fn step_definition<'a>(alloc: Global) -> Result<Command<'a>, AllocError>
         "together",
         "Runs all processes on one node, with every channel inside it",
     );
-    Command::new(alloc, "step")
-        .about("Runs the network on standard input and prints its traffic")
-        .after_help(STEP_HELP)
+    let about = "Runs the network and prints its traffic";
+    network_command(alloc, "step", about, STEP_HELP)?
         .arg(limit)?
         .arg(schedule)?
         .arg(together)?
@@ -281,9 +303,8 @@ fn run_definition<'a>(alloc: Global) -> Result<Command<'a>, AllocError>
         value_parser!(u32),
         "0",
     );
-    Command::new(alloc, "run")
-        .about("Runs the network on standard input in threads and prints its traffic")
-        .after_help(RUN_HELP)
+    let about = "Runs the network in threads and prints its traffic";
+    network_command(alloc, "run", about, RUN_HELP)?
         .arg(turns)?
         .arg(seed)?
         .arg(flag(alloc, "why", WHY))?
@@ -299,18 +320,14 @@ pub(crate) fn definition<'a>(alloc: Global) -> Result<Command<'a>, AllocError>
     ensures app { IfOk result (λ c. app_of c ≡ vcnet) }
     ensures local { IfOk result (λ c. (out-Command c).has_globals ≡ false) }
 {
-    let check = Command::new(alloc, "check")
-        .about("Checks the network on standard input")
-        .after_help(CHECK_HELP);
-    let explain = Command::new(alloc, "explain")
-        .about("Tells what is wrong in the network on standard input, and where")
-        .after_help(EXPLAIN_HELP);
-    let deadlock = Command::new(alloc, "deadlock")
-        .about("Shows a cycle along which packets of the network on standard input might wait")
-        .after_help(DEADLOCK_HELP);
-    let label = Command::new(alloc, "label")
-        .about("Makes the labelling of the network on standard input and prints the whole file")
-        .after_help(LABEL_HELP);
+    let check_about = "Checks the network";
+    let check = network_command(alloc, "check", check_about, CHECK_HELP)?;
+    let explain_about = "Says what is wrong in the network, and where";
+    let explain = network_command(alloc, "explain", explain_about, EXPLAIN_HELP)?;
+    let deadlock_about = "Shows a cycle along which packets of the network might wait";
+    let deadlock = network_command(alloc, "deadlock", deadlock_about, DEADLOCK_HELP)?;
+    let label_about = "Makes the labelling of the network and prints the whole file";
+    let label = network_command(alloc, "label", label_about, LABEL_HELP)?;
     Command::new(alloc, "vcnet")
         .about("The virtual channel network of the T9000 and the C104, with occam processes")
         .after_help(PROGRAM_HELP)

@@ -21,5 +21,5 @@ pub use line::Line;
 pub use line_fault::LineFault;
 pub use progress::{Progress, Unit};
 pub use vc_text::Meter;
-pub use vc_trace::EventFiles;
+pub use vc_trace::NamedFiles;
 pub use words::{run_words, tell_memory, tell_no_text};

@@ -21,14 +21,14 @@ pub enum Line {
     },
     /// To run the network event by event, and to print its traffic.
     Step {
-        /// How it is run: at most 1,000,000,000 events are made, and 1,000,000 where the words say nothing.
+        /// How it is run: at most 1,000,000,000 events are made, and 1,000,000 if the words say nothing.
         options: StepOptions,
         /// What is written of it.
         account: Account,
     },
     /// To run the network with a thread for each node and each switch, and to print its traffic.
     Run {
-        /// How it is run: each thread makes at most 1,000,000,000 turns, and 10,000,000 where the words say nothing; the seed is 0 where
+        /// How it is run: each thread makes at most 1,000,000,000 turns, and 10,000,000 if the words say nothing; the seed is 0 if
         /// they say nothing.
         options: ThreadOptions,
         /// What is written of it.

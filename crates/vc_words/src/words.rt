@@ -6,11 +6,11 @@ ghost use Rattle.vc_text.specs.OneNode.{ReadsAs};
 ghost use Rattle.vc_text.specs.RunText.{WritesRunBy};
 ghost use Rattle.vc_text.specs.ThreadsText.{WritesThreads};
 ghost use Rattle.vc_words.specs.CommandLine.{faults, IsFaultOf};
-ghost use Rattle.vc_words.specs.Program.{ChecksNetwork, DrawsNetwork, ExplainsNetwork, FindsDeadlock, IsTextOf, IsThreadTextOf, LabelsNetwork, ReplaysFile, ReplaysNetwork, Runs, RunsNetwork, StepsNetwork, Tells, TellsFault, TellsLine, no_text_fault};
+ghost use Rattle.vc_words.specs.Program.{ChecksNetwork, DrawsNetwork, ExplainsNetwork, FindsDeadlock, Does, DoesFile, IsTextOf, IsThreadTextOf, LabelsNetwork, ReplaysFile, ReplaysNetwork, Runs, RunsNetwork, StepsNetwork, Tells, TellsFault, TellsLine, no_text_fault};
 ghost use Rattle.vc_words.specs.Status.{status_of_acceptance as status_for_acceptance, status_of_check as status_for_check, status_of_text as status_for_text, status_of_fault, status_of_freedom as status_for_freedom, status_of_end, status_of_replay as status_for_replay};
 
 use crate::account::Account;
-use crate::arguments::{command, events_of};
+use crate::arguments::{command, events_of, network_of};
 use crate::line::Line;
 use crate::line_fault::LineFault;
 use std::alloc::Global;
@@ -29,7 +29,7 @@ use vc_text::{
     run_step_unlogged, write_fault, write_text,
 };
 use vc_threads::Ending;
-use vc_trace::{EventFile, EventFiles, Replayed, run_replay, trace_net, trace_step};
+use vc_trace::{NamedFile, NamedFiles, Replayed, run_replay, trace_net, trace_step};
 
 /// The status for a network that is accepted, or drawn, or without a cycle, or whose processes have all ended.
 const DONE: u8 = 0;
@@ -43,7 +43,7 @@ const QUIET: u8 = 1;
 /// The status for a run that made as many events or turns as it was allowed.
 const LIMIT: u8 = 3;
 
-/// The status where the reader or the writer failed, or the file of events can't be opened.
+/// The status if the reader or the writer failed, or a file can't be opened.
 const BAD_STREAM: u8 = 6;
 
 /// The status for a bad command line.
@@ -52,10 +52,10 @@ const BAD_LINE: u8 = 5;
 /// The status for a network that is refused.
 const REFUSED: u8 = 2;
 
-/// The status for want of memory, or of a thread.
+/// The status if there is no memory or no thread.
 const NO_MEMORY: u8 = 4;
 
-/// The status of a text that is refused, where memory may have been short.
+/// The status of a text that is refused, also when out of memory.
 fn status_of_text(refused: &ReadRefused) -> u8
     ensures { result ≡ status_for_text refused.now }
 {
@@ -65,7 +65,7 @@ fn status_of_text(refused: &ReadRefused) -> u8
     }
 }
 
-/// The status of a plan that is refused, where memory may have been short.
+/// The status of a plan that is refused, also when out of memory.
 fn status_of_check(why: &CheckRefused) -> u8
     ensures { result ≡ status_for_check why.now }
 {
@@ -75,7 +75,7 @@ fn status_of_check(why: &CheckRefused) -> u8
     }
 }
 
-/// The status of a fault: 2 for a network that is refused, 4 for want of memory or of threads, 6 for the streams.
+/// The status of a fault: 2 for a network that is refused, 4 if there is no memory or no thread, 6 for the streams.
 fn status_of(fault: &RunFault) -> u8
     ensures { result ≡ status_of_fault fault.now }
 {
@@ -126,14 +126,14 @@ fn tell_text<W: Write>(text: &[u8], status: u8, writer: &mut W) -> u8
     }
 }
 
-/// Writes that there was no memory. The status is that of want of memory, or of a fault in writing it.
+/// Writes that there is no memory. The status is 4, or that of a fault in writing it.
 pub fn tell_memory<W: Write>(alloc: Global, writer: &mut W) -> u8
     ensures { TellsFault (W.contents writer.old) (W.contents writer.new) OutOfMemory result }
 {
     tell_fault(alloc, RunFault::Memory, writer)
 }
 
-/// Writes that the words of the command line are no text. The status is that of a bad line, or of a fault in writing it.
+/// Writes that the words of the command line are no text. The status is 5, or that of a fault in writing it.
 pub fn tell_no_text<W: Write>(writer: &mut W) -> u8
     ensures { Tells (W.contents writer.old) (W.contents writer.new) no_text_fault 5 result }
 {
@@ -169,7 +169,7 @@ fn status_of_acceptance(is_accepted: bool) -> u8
     if is_accepted { DONE } else { REFUSED }
 }
 
-/// Tells what is wrong in the network file that the reader has, and where, or what its network has.
+/// Writes what is wrong in the network file that the reader has, and where, or what its network has.
 fn explain_by<R: Read, W: Write>(alloc: Global, reader: &mut R, writer: &mut W) -> u8
     ensures { ExplainsNetwork (R.remaining reader.old)
         (W.contents writer.old) (W.contents writer.new) result }
@@ -338,10 +338,10 @@ fn status_of_replay(replayed: Replayed) -> u8
 }
 
 /// Makes the events of a file in the network that the reader has, and answers the status.
-fn replay_file<F: EventFiles, R: Read, W: Write>(
+fn replay_file<F: NamedFiles, R: Read, W: Write>(
     alloc: Global,
     reader: &mut R,
-    file: EventFile<'_, F>,
+    file: NamedFile<'_, F>,
     writer: &mut W,
     is_why: bool,
     meter: &Meter,
@@ -359,7 +359,7 @@ fn replay_file<F: EventFiles, R: Read, W: Write>(
 }
 
 /// Makes the events of the file that the words name in the network that the reader has, and answers the status.
-fn replay_by<F: EventFiles, R: Read, W: Write>(
+fn replay_by<F: NamedFiles, R: Read, W: Write>(
     files: &F,
     alloc: Global,
     words: &[&str],
@@ -375,13 +375,67 @@ fn replay_by<F: EventFiles, R: Read, W: Write>(
     let Some(name) = events_of(alloc, words) else {
         return tell_fault(alloc, RunFault::Memory, writer);
     };
-    let file = EventFile { files, name };
+    let file = NamedFile { files, name };
     replay_file(alloc, reader, file, writer, is_why, meter)
 }
 
-/// Does what the words ask for, over any reader and any writer; the first word is the program's name. The words are read before
-/// the reader, and a bad line reads nothing. The meter notes from time to time how far a run is. The answer is the program's status.
-pub fn run_words<T: EventFiles + Threads + Wait + Sync, R: Read, W: Write>(
+/// Does what a line asks for with the network that the reader has, and answers the status.
+fn do_line<T: NamedFiles + Threads + Wait + Sync, R: Read, W: Write>(
+    rt: &T,
+    alloc: Global,
+    words: &[&str],
+    line: Line,
+    reader: &mut R,
+    writer: &mut W,
+    meter: &Meter,
+) -> u8
+    ensures { Does (record { holds = T.holds rt.now; fails = T.fails rt.now })
+        (texts words.now) line
+        (R.remaining reader.old) (W.contents writer.old) (W.contents writer.new) result }
+{
+    match line {
+        Line::Check => check_by(alloc, reader, writer),
+        Line::Explain => explain_by(alloc, reader, writer),
+        Line::Deadlock => deadlock_by(alloc, reader, writer),
+        Line::Label => label_by(alloc, reader, writer),
+        Line::Draw { after } => draw_by(alloc, reader, writer, after, meter),
+        Line::Step { options, account } => {
+            step_by(alloc, reader, writer, options, account, meter)
+        }
+        Line::Run { options, account } => {
+            run_by(rt, alloc, reader, writer, options, account, meter)
+        }
+        Line::Replay { is_why } => replay_by(rt, alloc, words, reader, writer, is_why, meter),
+    }
+}
+
+/// Does what a line asks for with the network of the file of this name. A file that can't be opened is reported.
+fn do_file<T: NamedFiles + Threads + Wait + Sync, W: Write>(
+    rt: &T,
+    alloc: Global,
+    words: &[&str],
+    line: Line,
+    name: &str,
+    writer: &mut W,
+    meter: &Meter,
+) -> u8
+    ensures { DoesFile (record { holds = T.holds rt.now; fails = T.fails rt.now })
+        (texts words.now) line name.now
+        (W.contents writer.old) (W.contents writer.new) result }
+{
+    match rt.open_named(name) {
+        Some(file) => {
+            let mut file = file;
+            do_line(rt, alloc, words, line, &mut file, writer, meter)
+        }
+        None => tell_text(b"fault file\n", BAD_STREAM, writer),
+    }
+}
+
+/// Does what the words ask for; the first word is the program's name. The network is read from the file that the words name, or from the
+/// reader if they name none. The words are read first, and a bad line reads nothing. The meter notes from time to time how far a run is.
+/// The answer is the program's status.
+pub fn run_words<T: NamedFiles + Threads + Wait + Sync, R: Read, W: Write>(
     rt: &T,
     alloc: Global,
     words: &[&str],
@@ -393,21 +447,13 @@ pub fn run_words<T: EventFiles + Threads + Wait + Sync, R: Read, W: Write>(
         (texts words.now) (R.remaining reader.old) (R.remaining reader.new)
         (W.contents writer.old) (W.contents writer.new) result }
 {
-    match command(alloc, words) {
-        Ok(Line::Check) => check_by(alloc, reader, writer),
-        Ok(Line::Explain) => explain_by(alloc, reader, writer),
-        Ok(Line::Deadlock) => deadlock_by(alloc, reader, writer),
-        Ok(Line::Label) => label_by(alloc, reader, writer),
-        Ok(Line::Draw { after }) => draw_by(alloc, reader, writer, after, meter),
-        Ok(Line::Step { options, account }) => {
-            step_by(alloc, reader, writer, options, account, meter)
-        }
-        Ok(Line::Run { options, account }) => {
-            run_by(rt, alloc, reader, writer, options, account, meter)
-        }
-        Ok(Line::Replay { is_why }) => {
-            replay_by(rt, alloc, words, reader, writer, is_why, meter)
-        }
+    let line = match command(alloc, words) {
+        Ok(line) => line,
+        Err(fault) => return tell_line_fault(alloc, &fault, writer),
+    };
+    match network_of(alloc, words) {
+        Ok(Some(name)) => do_file(rt, alloc, words, line, name, writer, meter),
+        Ok(None) => do_line(rt, alloc, words, line, reader, writer, meter),
         Err(fault) => tell_line_fault(alloc, &fault, writer),
     }
 }

@@ -12,7 +12,7 @@ use std::sync::Wait;
 use std::thread::Threads;
 use std::time::Clock;
 use std::{io, thread};
-use vc_words::{EventFiles, Meter, Progress, progress_for, run_words, tell_memory, tell_no_text};
+use vc_words::{Meter, NamedFiles, Progress, progress_for, run_words, tell_memory, tell_no_text};
 
 /// The words of the command line.
 fn words_of(rt: &HostRuntime, alloc: Global) -> io::Result<Vec<String>> {
@@ -27,7 +27,7 @@ struct Terminals {
 }
 
 /// Does what the words ask for, and shows meanwhile how far that is. The answer is the program's status.
-fn status_shown<T: Clock + Eprint + EventFiles + Threads + Wait + Sync, R: Read, W: Write>(
+fn status_shown<T: Clock + Eprint + NamedFiles + Threads + Wait + Sync, R: Read, W: Write>(
     rt: &T,
     words: &[&str],
     reader: &mut R,
@@ -57,7 +57,7 @@ fn status_shown<T: Clock + Eprint + EventFiles + Threads + Wait + Sync, R: Read,
 }
 
 /// Does what these words ask for; the answer is the program's status.
-fn status_of<T: Clock + Eprint + EventFiles + Threads + Wait + Sync, R: Read, W: Write>(
+fn status_of<T: Clock + Eprint + NamedFiles + Threads + Wait + Sync, R: Read, W: Write>(
     rt: &T,
     alloc: Global,
     texts: &[String],

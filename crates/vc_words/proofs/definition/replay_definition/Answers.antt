@@ -1,14 +1,12 @@
-use Rattle.std.proofs.Common.{ap, ap₂, false, codes, ◌≡◌, ◌∙◌}
+use Rattle.std.proofs.Common.{ap, ap₂, ◌∙◌}
 use Rattle.std.proofs.lemmas.Result.{IfOk-weaker}
-use Rattle.clap.specs.Words.{App, app_of, new_app, with_rule}
-use Rattle.clap.specs.Simple.{app_of_fields}
-use Rattle.clap.specs.declared.builder.command.Command.TheViews.{out-Command}
-use Rattle.vc_words.proofs.Commands.{globals, neither}
+use Rattle.clap.specs.Words.{App, with_rule}
+use Rattle.vc_words.proofs.Commands.{neither}
 use Rattle.vc_words.proofs.definition.replay_definition.Goals as goal
 
 pub returns-clause-shape : goal.returns-clause-shape
 returns-clause-shape c =
-    let top : app_of c.after_help.result ≡ new_app (codes "replay") = ap app_of_fields c.after_help.ensures ∙ ap app_of_fields c.about.ensures ∙ c.new.ensures.app in
+    let top = c.in_ok-network_command.ensures.app in
     let one = c.in_ok-arg.ensures.shape c.file_option-events.ensures.local ∙ ap₂ with_rule top c.file_option-events.ensures.rule in
     let last = c.in_ok-arg-2.ensures.shape c.flag.ensures.local ∙ ap₂ with_rule one c.flag.ensures.rule in
     let shown = c.in_ok-arg-3.ensures.shape c.flag-2.ensures.local ∙ ap₂ with_rule last c.flag-2.ensures.rule in
@@ -16,7 +14,7 @@ returns-clause-shape c =
 
 pub returns-clause-local : goal.returns-clause-local
 returns-clause-local c =
-    let top : (out-Command c.after_help.result).has_globals ≡ false = ap globals c.after_help.ensures ∙ ap globals c.about.ensures ∙ c.new.ensures.local in
+    let top = c.in_ok-network_command.ensures.local in
     let one = neither _ _ _ c.in_ok-arg.ensures.globals top c.file_option-events.ensures.local in
     let last = neither _ _ _ c.in_ok-arg-2.ensures.globals one c.flag.ensures.local in
     let shown = neither _ _ _ c.in_ok-arg-3.ensures.globals last c.flag-2.ensures.local in

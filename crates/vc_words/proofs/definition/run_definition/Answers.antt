@@ -1,15 +1,13 @@
-use Rattle.std.proofs.Common.{ap, ap₂, false, codes, ◌≡◌, ◌∙◌}
+use Rattle.std.proofs.Common.{ap, ap₂, codes, ◌∙◌}
 use Rattle.std.proofs.lemmas.Result.{IfOk-weaker}
-use Rattle.clap.specs.Words.{App, app_of, new_app, with_rule}
-use Rattle.clap.specs.Simple.{app_of_fields}
-use Rattle.clap.specs.declared.builder.command.Command.TheViews.{out-Command}
+use Rattle.clap.specs.Words.{App, with_rule}
 use Rattle.vc_words.specs.CommandLine.{option_of}
-use Rattle.vc_words.proofs.Commands.{globals, neither}
+use Rattle.vc_words.proofs.Commands.{neither}
 use Rattle.vc_words.proofs.definition.run_definition.Goals as goal
 
 pub returns-clause-shape : goal.returns-clause-shape
 returns-clause-shape c =
-    let top : app_of c.after_help.result ≡ new_app (codes "run") = ap app_of_fields c.after_help.ensures ∙ ap app_of_fields c.about.ensures ∙ c.new.ensures.app in
+    let top = c.in_ok-network_command.ensures.app in
     let one = c.in_ok-arg.ensures.shape c.number_option-turns.ensures.local ∙ ap₂ with_rule top (c.number_option-turns.ensures.rule ∙ ap (λ n. option_of (codes "turns") n (codes "10000000")) c.counts.ensures) in
     let two = c.in_ok-arg-2.ensures.shape c.number_option-seed.ensures.local ∙ ap₂ with_rule one (c.number_option-seed.ensures.rule ∙ ap (λ n. option_of (codes "seed") n (codes "0")) c.value_parser.ensures) in
     let three = c.in_ok-arg-3.ensures.shape c.flag.ensures.local ∙ ap₂ with_rule two c.flag.ensures.rule in
@@ -21,7 +19,7 @@ returns-clause-shape c =
 
 pub returns-clause-local : goal.returns-clause-local
 returns-clause-local c =
-    let top : (out-Command c.after_help.result).has_globals ≡ false = ap globals c.after_help.ensures ∙ ap globals c.about.ensures ∙ c.new.ensures.local in
+    let top = c.in_ok-network_command.ensures.local in
     let one = neither _ _ _ c.in_ok-arg.ensures.globals top c.number_option-turns.ensures.local in
     let two = neither _ _ _ c.in_ok-arg-2.ensures.globals one c.number_option-seed.ensures.local in
     let three = neither _ _ _ c.in_ok-arg-3.ensures.globals two c.flag.ensures.local in

@@ -1,4 +1,4 @@
-//! Files of events.
+//! Files that are opened by their names.
 ghost use Rattle.std.specs.Prelude.{MatchOption};
 
 use std::fs::File;
@@ -6,7 +6,7 @@ use std::io::Read;
 
 /// Opens files by their names. `holds` says which bytes the file of a name may have, and `fails` whether opening it may fail. An
 /// implementation that says neither may open any file, or none.
-pub trait EventFiles {
+pub trait NamedFiles {
     ghost use Rattle.std.specs.Prelude.{ℕ, List, Option, MatchOption, ⊤};
 
     /// A file that is open.
@@ -17,22 +17,22 @@ pub trait EventFiles {
     ghost fails: { Self → List ℕ → Type 0 } = { λ _ _. ⊤ };
 
     /// Opens the file of a name for reading. The answer is None if it can't be opened.
-    fn open_events(&self, name: &str) -> Option<Self::File>
+    fn open_named(&self, name: &str) -> Option<Self::File>
         ensures { MatchOption result (fails self.now name.now)
             (λ file. holds self.now name.now (Self.File.remaining file)) };
 }
 
-impl EventFiles for HostRuntime {
+impl NamedFiles for HostRuntime {
     type File = File;
 
-    fn open_events(&self, name: &str) -> Option<File> {
+    fn open_named(&self, name: &str) -> Option<File> {
         File::open(self, name).ok()
     }
 }
 
 /// The name of a file, and what opens it.
 #[derive(Drop)]
-pub struct EventFile<'a, F> {
+pub struct NamedFile<'a, F> {
     /// What opens the file.
     pub files: &'a F,
     /// The file's name.
