@@ -11,7 +11,8 @@ use vc_core::{Act, Actor, actors};
 use vc_plan::check;
 use vc_reader::read_network;
 use vc_threads::{
-    ActorRun, EndGate, Ends, Gate, In, LinkRule, Stamped, Stop, merge, next_stamp, worker,
+    ActorActs, ActorRun, EndGate, Ends, Gate, In, LinkRule, Stamped, Stop, merge, next_stamp,
+    worker,
 };
 use vc_tokens::Token;
 
@@ -66,30 +67,21 @@ fn a_token_without_a_place_is_counted(rt: HostRuntime) -> Result<(), Fail> {
     Ok(())
 }
 
-/// The run of one act.
-fn run(rt: &impl Abort, alloc: Global, id: u8, at: u64) -> Result<ActorRun, Fail>
+/// One act of an actor.
+fn one_act(alloc: Global, id: u8, at: u64) -> Result<ActorActs, Fail>
     ensures { IfOk result
         (λ r. (r.id ≡ id) × ((act : SpeltAct) × (r.acts.items ≡ (at, act) ∷ []))) }
 {
     let mut acts = Vec::new(alloc);
     acts.push((at, Act::Pass { link: 0 }))?;
-    Ok(ActorRun {
-        id,
-        actor: actor(rt, alloc, SKIPS)?,
-        acts,
-        ends: Ends {
-            outs: Vec::new(alloc),
-            ins: Vec::new(alloc),
-        },
-        stop: Stop::Turns,
-    })
+    Ok(ActorActs { id, acts })
 }
 
 #[test]
 fn the_merge_goes_by_stamp_then_actor(rt: HostRuntime) -> Result<(), Fail> {
-    let late = run(&rt, rt.alloc(), 0, 3)?;
-    let early = run(&rt, rt.alloc(), 2, 1)?;
-    let tied = run(&rt, rt.alloc(), 1, 3)?;
+    let late = one_act(rt.alloc(), 0, 3)?;
+    let early = one_act(rt.alloc(), 2, 1)?;
+    let tied = one_act(rt.alloc(), 1, 3)?;
     let runs = [late, early, tied];
     let Ok(events) = merge(rt.alloc(), &runs) else {
         panic!(rt; "no memory");
@@ -102,7 +94,7 @@ fn the_merge_goes_by_stamp_then_actor(rt: HostRuntime) -> Result<(), Fail> {
 }
 
 /// What the node whose process is a SKIP does with this gate, where a token waits for it.
-fn skipped<G: Gate>(rt: &impl Abort, alloc: Global, gate: &G) -> Result<ActorRun, Fail> {
+fn skipped<G: Gate>(rt: &impl Abort, alloc: Global, gate: &G) -> Result<ActorRun<ActorActs>, Fail> {
     let (mut producer, consumer) = RingBuffer::with_protocol::<Global, LinkRule>(alloc, 32)?;
     let item = Token::Fct;
     assert!(rt; producer.push(Stamped { at: 7, item }).is_ok());
@@ -117,10 +109,10 @@ fn skipped<G: Gate>(rt: &impl Abort, alloc: Global, gate: &G) -> Result<ActorRun
 fn a_worker_takes_and_then_ends(rt: HostRuntime) -> Result<(), Fail> {
     let made = skipped(&rt, rt.alloc(), &EndGate::new(1))?;
     assert!(rt; made.stop == Stop::Gate);
-    assert_eq!(rt; made.acts.len(), 2);
-    assert_eq!(rt; made.acts[0].0, 8);
-    assert!(rt; matches!(made.acts[0].1, Act::Take { link: 2, .. }));
-    assert_eq!(rt; made.acts[1].0, 9);
+    assert_eq!(rt; made.log.acts.len(), 2);
+    assert_eq!(rt; made.log.acts[0].0, 8);
+    assert!(rt; matches!(made.log.acts[0].1, Act::Take { link: 2, .. }));
+    assert_eq!(rt; made.log.acts[1].0, 9);
     Ok(())
 }
 
@@ -142,10 +134,10 @@ fn a_worker_takes_from_the_least_link_first(rt: HostRuntime) -> Result<(), Fail>
     let outs = Vec::new(rt.alloc());
     let ends = Ends { outs, ins };
     let node = actor(&rt, rt.alloc(), SKIPS)?;
-    let made = worker(rt.alloc(), 0, node, ends, &EndGate::new(1), 100, 7);
-    assert_eq!(rt; made.acts.len(), 3);
-    assert!(rt; matches!(made.acts[0].1, Act::Take { link: 1, .. }));
-    assert!(rt; matches!(made.acts[1].1, Act::Take { link: 2, .. }));
+    let made: ActorRun<ActorActs> = worker(rt.alloc(), 0, node, ends, &EndGate::new(1), 100, 7);
+    assert_eq!(rt; made.log.acts.len(), 3);
+    assert!(rt; matches!(made.log.acts[0].1, Act::Take { link: 1, .. }));
+    assert!(rt; matches!(made.log.acts[1].1, Act::Take { link: 2, .. }));
     Ok(())
 }
 
@@ -166,7 +158,7 @@ fn a_worker_ends_at_the_turn_that_its_gate_refuses(rt: HostRuntime) -> Result<()
     for turn in 0..2 {
         let made = skipped(&rt, rt.alloc(), &RefusesTurn(turn))?;
         assert!(rt; made.stop == Stop::Gate);
-        assert_eq!(rt; made.acts.len() as u64, turn);
+        assert_eq!(rt; made.log.acts.len() as u64, turn);
     }
     Ok(())
 }

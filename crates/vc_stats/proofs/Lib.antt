@@ -1,4 +1,6 @@
+pub mod ActCounts
 pub mod Acts
+pub mod AddedCounts
 pub mod Busy
 pub mod Cells
 pub mod Figures

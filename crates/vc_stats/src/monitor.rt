@@ -138,7 +138,9 @@ impl EventSink for Monitor {
     ghost use Rattle.vc_core.specs.State.{shown};
     ghost use Rattle.vc_stats.specs.Monitor.{Monitors};
 
-    ghost holds = { λ monitor p es s. Monitors monitor p es (shown s) };
+    type Fault = Memory;
+
+    ghost holds = { λ _ monitor p es s. Monitors monitor p es (shown s) };
 
     fn keeps_none(&self) -> bool {
         false

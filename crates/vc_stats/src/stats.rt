@@ -1,5 +1,5 @@
 //! Counts of the events of a run.
-ghost use Rattle.std.specs.Prelude.{◌≡◌, [], ◌∷◌, ◌++◌, List, length, IfOk, OnOk};
+ghost use Rattle.std.specs.Prelude.{◌≡◌, [], ◌∷◌, ◌++◌, List, length, OnOk};
 ghost use Rattle.vc_core.specs.declared.event.Event.{Event};
 ghost use Rattle.vc_stats.specs.Counts.{AreCounts, Counts, actor_count_at, count_at, fct_in, kind_count, kind_in, offer_in, output_in, put_in, want_in};
 
@@ -107,17 +107,6 @@ impl Stats {
         }
     }
 
-    /// The counts of these events. It fails for want of memory alone.
-    pub(crate) fn of(alloc: Global, events: &[Event]) -> Result<Stats, Memory>
-        ensures { IfOk result (λ stats. Counts stats events.now) }
-    {
-        let mut stats = Stats::new(alloc);
-        for event in events {
-            stats.count(event)?;
-        }
-        Ok(stats)
-    }
-
     /// How many events there are.
     pub(crate) fn events(&self) -> u64
         ensures { (es : List Event) → AreCounts self.now es → result ≡ length es }
@@ -188,5 +177,23 @@ impl Stats {
         self.routes.count(event.actor, output_of(&event.act))?;
         self.offers.count(offer_of(&event.act))?;
         self.wants.count(want_of(&event.act))
+    }
+    /// Adds the counts of other events. It fails if there are more than `u64::MAX` then, and when out of memory.
+    pub(crate) fn add(&mut self, other: &Stats) -> Result<(), Memory>
+        ensures { OnOk result ((es fs : List Event) → AreCounts self.old es →
+            AreCounts other.now fs → AreCounts self.new (es ++ fs)) }
+    {
+        let Some(events) = self.events.checked_add(other.events) else {
+            return Err(Memory);
+        };
+        self.events = events;
+        self.all.add_all(&other.all)?;
+        self.kinds.add_all(&other.kinds)?;
+        self.puts.add_all(&other.puts)?;
+        self.fcts.add_all(&other.fcts)?;
+        self.routes.add_all(&other.routes)?;
+        self.offers.add_all(&other.offers)?;
+        self.wants.add_all(&other.wants)?;
+        Ok(())
     }
 }

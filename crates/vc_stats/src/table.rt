@@ -1,5 +1,6 @@
 //! How often numbers came in each row.
-ghost use Rattle.std.specs.Prelude.{◌≡◌, ◌==◌, ◌&&◌, ◌<◌, ℕ, cond, length, OnOk};
+ghost use Rattle.std.specs.Prelude.{◌≡◌, ◌==◌, ◌&&◌, ◌≤◌, ℕ, cond, length, OnOk};
+ghost use Rattle.vc_stats.specs.Private.Sums.{Adds};
 ghost use Rattle.vc_stats.specs.Tallies.{cell, counted, is_at};
 
 use crate::tally::Tally;
@@ -30,7 +31,7 @@ impl Table {
             cell self.new k n ≡ counted (row == k && is_at n number) (cell self.old k n)) }
     {
         let place = usize::from(row);
-        self.reach(place)?;
+        self.reach(place + 1)?;
         self.rows[place].count(number)
     }
 
@@ -40,17 +41,28 @@ impl Table {
             cell self.new k n ≡ cond (row == k && number == n) times (cell self.old k n)) }
     {
         let place = usize::from(row);
-        self.reach(place)?;
+        self.reach(place + 1)?;
         self.rows[place].set(number, times)
     }
 
-    // There is such a row.
-    fn reach(&mut self, place: usize) -> Result<(), Memory>
-        requires { place < 256 }
-        ensures within { OnOk result (place < length self.new.rows.items) }
+    /// Each number came in each row as often as in both tables. It fails only when out of memory.
+    pub(crate) fn add_all(&mut self, other: &Table) -> Result<(), Memory>
+        ensures { OnOk result ((k : ℕ) →
+            Adds (cell self.old k) (cell other.now k) (cell self.new k)) }
+    {
+        self.reach(other.rows.len())?;
+        for row in 0..other.rows.len() {
+            self.rows[row].add_all(&other.rows[row])?;
+        }
+        Ok(())
+    }
+
+    // There are at least so many rows.
+    fn reach(&mut self, count: usize) -> Result<(), Memory>
+        ensures many { OnOk result (count ≤ length self.new.rows.items) }
         ensures same { OnOk result ((k n : ℕ) → cell self.new k n ≡ cell self.old k n) }
     {
-        for _ in self.rows.len()..place + 1 {
+        for _ in self.rows.len()..count {
             self.rows.push(Tally::new(self.alloc))?;
         }
         Ok(())

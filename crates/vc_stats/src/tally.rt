@@ -1,5 +1,6 @@
 //! How often numbers came.
-ghost use Rattle.std.specs.Prelude.{◌≡◌, ◌==◌, ◌<◌, ℕ, cond, length, OnOk};
+ghost use Rattle.std.specs.Prelude.{◌≡◌, ◌==◌, ◌≤◌, ℕ, cond, length, OnOk};
+ghost use Rattle.vc_stats.specs.Private.Sums.{Adds};
 ghost use Rattle.vc_stats.specs.Tallies.{counted, entry, is_at};
 
 use std::alloc::Global;
@@ -38,7 +39,7 @@ impl Tally {
             entry self.new n ≡ counted (number == n) (entry self.old n)) }
     {
         let place = usize::from(number);
-        self.reach(place)?;
+        self.reach(place + 1)?;
         self.entries[place] = self.entries[place].saturating_add(1);
         Ok(())
     }
@@ -49,19 +50,29 @@ impl Tally {
             entry self.new n ≡ cond (number == n) times (entry self.old n)) }
     {
         let place = usize::from(number);
-        self.reach(place)?;
+        self.reach(place + 1)?;
         self.entries[place] = times;
         Ok(())
     }
 
-    // There is an entry at this place.
-    fn reach(&mut self, place: usize) -> Result<(), Memory>
-        requires { place < 65536 }
-        ensures within { OnOk result (place < length self.new.entries.items) }
+    /// Each number came as often as in both tallies. It fails only when out of memory.
+    pub(crate) fn add_all(&mut self, other: &Tally) -> Result<(), Memory>
+        ensures { OnOk result (Adds (entry self.old) (entry other.now) (entry self.new)) }
+    {
+        self.reach(other.entries.len())?;
+        for place in 0..other.entries.len() {
+            self.entries[place] = self.entries[place].saturating_add(other.entries[place]);
+        }
+        Ok(())
+    }
+
+    // There are at least so many entries.
+    fn reach(&mut self, count: usize) -> Result<(), Memory>
+        ensures many { OnOk result (count ≤ length self.new.entries.items) }
         ensures same { OnOk result ((n : ℕ) → entry self.new n ≡ entry self.old n) }
     {
-        if place >= self.entries.len() {
-            self.entries.resize(place + 1, 0)?;
+        if count > self.entries.len() {
+            self.entries.resize(count, 0)?;
         }
         Ok(())
     }

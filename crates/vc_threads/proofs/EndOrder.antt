@@ -10,6 +10,7 @@ use Rattle.rtrb.specs.Ring.{sent, received, IsPair}
 use Rattle.vc_accepted.specs.ActorWays.{actor_of}
 use Rattle.vc_network.specs.LocalRun.{all_put, all_taken}
 use Rattle.vc_actor.specs.Begin.{AreFirst}
+use Rattle.vc_actor.specs.declared.act.Act.{Act}
 use Rattle.vc_actor.specs.Turns.{actors}
 use Rattle.vc_plan.specs.declared.plan.Plan.{Plan}
 use Rattle.vc_plan.specs.declared.port.Port.{Port}
@@ -63,32 +64,32 @@ jobs_meet nodes js from to fit h =
           subst (λ (v : In). IsPair o.1 v.1) si (subst (λ (v : Out). IsPair v.1 h.into.1) so h.ring.pair);
     }
 
-module _ (p : Plan) (refuses : ℕ → ℕ → Type 0) (turns seed : ℕ) (js : List Job) (rs : List ActorRun) (first : AreFirst p (actors p) (map actor_in js)) (are : AreNumbered 0 (map who js)) (ran : AllZip (Ran refuses turns seed) js rs) where
+module _ {L : Type 0} (holds : L → ℕ → List (ℕ × Act) → Type 0) (p : Plan) (refuses : ℕ → ℕ → Type 0) (turns seed : ℕ) (js : List Job) (rs : List (ActorRun L)) (first : AreFirst p (actors p) (map actor_in js)) (are : AreNumbered 0 (map who js)) (ran : AllZip (Ran holds refuses turns seed) js rs) where
   -- what each actor put and took
-  sent_by : (k : ℕ) (c : (k < actors p) ⊎ (actors p ≤ k)) → AllZip (Sends (pick p refuses turns seed js rs first are ran k c)) (outs_of js k) (get_or (map outs_left rs) k [])
+  sent_by : (k : ℕ) (c : (k < actors p) ⊎ (actors p ≤ k)) → AllZip (Sends (pick holds p refuses turns seed js rs first are ran k c)) (outs_of js k) (get_or (map outs_left rs) k [])
   sent_by k (inl less) =
-      let d = did p refuses turns seed js rs first are ran k less in
+      let d = did holds p refuses turns seed js rs first are ran k less in
       let a = get_or_from_slice_get (map outs_in js) k (outs_in d.done.job) [] (slice_get-map outs_in js k ∙ ap (option_map outs_in) d.done.job_is) in
       let b = get_or_from_slice_get (map outs_left rs) k (outs_left d.done.run) [] (slice_get-map outs_left rs k ∙ ap (option_map outs_left) d.done.run_is) in
       subst (λ xs. AllZip (Sends d.has.steps) xs (get_or (map outs_left rs) k [])) (sym a) (subst (AllZip (Sends d.has.steps) (outs_in d.done.job)) (sym b) d.has.outs)
   sent_by k (inr past) =
-      let n = jobs_count p refuses turns seed js rs first are ran in
-      let m = zip_length (Ran refuses turns seed) js rs ran in
+      let n = jobs_count holds p refuses turns seed js rs first are ran in
+      let m = zip_length (Ran holds refuses turns seed) js rs ran in
       let u = length-map js outs_in in
       let v = length-map rs outs_left in
       let a = get_or_past (map outs_in js) k [] (omega (arith, n, u, past)) in
       let b = get_or_past (map outs_left rs) k [] (omega (arith, n, m, v, past)) in
       subst (λ xs. AllZip (Sends []) xs (get_or (map outs_left rs) k [])) (sym a) (subst (AllZip (Sends []) []) (sym b) tt)
 
-  taken_by : (k : ℕ) (c : (k < actors p) ⊎ (actors p ≤ k)) → AllZip (Receives (pick p refuses turns seed js rs first are ran k c)) (ins_of js k) (get_or (map ins_left rs) k [])
+  taken_by : (k : ℕ) (c : (k < actors p) ⊎ (actors p ≤ k)) → AllZip (Receives (pick holds p refuses turns seed js rs first are ran k c)) (ins_of js k) (get_or (map ins_left rs) k [])
   taken_by k (inl less) =
-      let d = did p refuses turns seed js rs first are ran k less in
+      let d = did holds p refuses turns seed js rs first are ran k less in
       let a = get_or_from_slice_get (map ins_in js) k (ins_in d.done.job) [] (slice_get-map ins_in js k ∙ ap (option_map ins_in) d.done.job_is) in
       let b = get_or_from_slice_get (map ins_left rs) k (ins_left d.done.run) [] (slice_get-map ins_left rs k ∙ ap (option_map ins_left) d.done.run_is) in
       subst (λ xs. AllZip (Receives d.has.steps) xs (get_or (map ins_left rs) k [])) (sym a) (subst (AllZip (Receives d.has.steps) (ins_in d.done.job)) (sym b) d.has.ins)
   taken_by k (inr past) =
-      let n = jobs_count p refuses turns seed js rs first are ran in
-      let m = zip_length (Ran refuses turns seed) js rs ran in
+      let n = jobs_count holds p refuses turns seed js rs first are ran in
+      let m = zip_length (Ran holds refuses turns seed) js rs ran in
       let u = length-map js ins_in in
       let v = length-map rs ins_left in
       let a = get_or_past (map ins_in js) k [] (omega (arith, n, u, past)) in
@@ -96,31 +97,31 @@ module _ (p : Plan) (refuses : ℕ → ℕ → Type 0) (turns seed : ℕ) (js : 
       subst (λ xs. AllZip (Receives []) xs (get_or (map ins_left rs) k [])) (sym a) (subst (AllZip (Receives []) []) (sym b) tt)
 
   module _ (e : AllEnds) (outs : map (λ v. v.items) e.outs.items ≡ map outs_left rs) (ins : map (λ v. v.items) e.ins.items ≡ map ins_left rs) (wired : AreWired p (length p.wires) js) where
-    pub sends : (k : ℕ) → AllZip (Sends (steps_of p refuses turns seed js rs first are ran k)) (outs_of js k) (outs_at e k)
-    sends k = subst (λ xs. AllZip (Sends (steps_of p refuses turns seed js rs first are ran k)) (outs_of js k) (get_or xs k [])) (sym outs) (sent_by k (cases_lt k (actors p)))
+    pub sends : (k : ℕ) → AllZip (Sends (steps_of holds p refuses turns seed js rs first are ran k)) (outs_of js k) (outs_at e k)
+    sends k = subst (λ xs. AllZip (Sends (steps_of holds p refuses turns seed js rs first are ran k)) (outs_of js k) (get_or xs k [])) (sym outs) (sent_by k (cases_lt k (actors p)))
 
-    pub receives : (k : ℕ) → AllZip (Receives (steps_of p refuses turns seed js rs first are ran k)) (ins_of js k) (ins_at e k)
-    receives k = subst (λ xs. AllZip (Receives (steps_of p refuses turns seed js rs first are ran k)) (ins_of js k) (get_or xs k [])) (sym ins) (taken_by k (cases_lt k (actors p)))
+    pub receives : (k : ℕ) → AllZip (Receives (steps_of holds p refuses turns seed js rs first are ran k)) (ins_of js k) (ins_at e k)
+    receives k = subst (λ xs. AllZip (Receives (steps_of holds p refuses turns seed js rs first are ran k)) (ins_of js k) (get_or xs k [])) (sym ins) (taken_by k (cases_lt k (actors p)))
 
     meet : (fit : AllByRecursion IsFit js) (from to : Port) → HasRing (length p.nodes) js from to → MeetAt (length p.nodes) e from to
     meet fit from to h =
         let s = actor_of (length p.nodes) from.spot in
         let t = actor_of (length p.nodes) to.spot in
         meet_kept (outs_of js s) (outs_at e s) (ins_of js t) (ins_at e t) from.link to.link
-        (zip_weaker (Sends (steps_of p refuses turns seed js rs first are ran s)) SameOut (λ a b l. (l.0, l.1)) (outs_of js s) (outs_at e s) (sends s))
-        (zip_weaker (Receives (steps_of p refuses turns seed js rs first are ran t)) SameIn (λ a b l. (l.0, l.1)) (ins_of js t) (ins_at e t) (receives t))
+        (zip_weaker (Sends (steps_of holds p refuses turns seed js rs first are ran s)) SameOut (λ a b l. (l.0, l.1)) (outs_of js s) (outs_at e s) (sends s))
+        (zip_weaker (Receives (steps_of holds p refuses turns seed js rs first are ran t)) SameIn (λ a b l. (l.0, l.1)) (ins_of js t) (ins_at e t) (receives t))
         (jobs_meet (length p.nodes) js from to fit h)
 
     pub ends_meet : AllByRecursion IsFit js → OnWires (MeetAt (length p.nodes) e) p.wires (length p.wires)
     ends_meet fit i w less at = let h = wired.rings i w less at in (meet fit w.one w.two h.0, meet fit w.two w.one h.1)
 
     module _ (lines : List (Vec Token)) (left : ℕ → List Item) (left_is : (w : ℕ) → left w ≡ tokens (tokens_at lines w)) where
-      takes : (way : ℕ) (from to : Port) → HasRing (length p.nodes) js from to → LeftOn (length p.nodes) e lines way from to → TakesInOrder (length p.nodes) (steps_of p refuses turns seed js rs first are ran) left way from to
+      takes : (way : ℕ) (from to : Port) → HasRing (length p.nodes) js from to → LeftOn (length p.nodes) e lines way from to → TakesInOrder (length p.nodes) (steps_of holds p refuses turns seed js rs first are ran) left way from to
       takes way from to h order =
           let s = actor_of (length p.nodes) from.spot in
           let t = actor_of (length p.nodes) to.spot in
-          let put = steps_of p refuses turns seed js rs first are ran s in
-          let took = steps_of p refuses turns seed js rs first are ran t in
+          let put = steps_of holds p refuses turns seed js rs first are ran s in
+          let took = steps_of holds p refuses turns seed js rs first are ran t in
           let x = after (Sends put) (outs_of js s) (outs_at e s) h.out (sends s) h.source in
           let y = after (Receives took) (ins_of js t) (ins_at e t) h.into (receives t) h.sink in
           let f = order x.it y.it x.at y.at (x.is.0 ∙ h.ring.near) (y.is.0 ∙ h.ring.far) in
@@ -131,7 +132,7 @@ module _ (p : Plan) (refuses : ℕ → ℕ → Type 0) (turns seed : ℕ) (js : 
             left_is way ∙ ap tokens (f.tokens_are ∙ sym (map-map (λ s. s.it) stamped f.rest)),
           )
 
-      pub takes_in_order : OnWays (LeftOn (length p.nodes) e lines) p.wires (length p.wires) → OnWays (TakesInOrder (length p.nodes) (steps_of p refuses turns seed js rs first are ran) left) p.wires (length p.wires)
+      pub takes_in_order : OnWays (LeftOn (length p.nodes) e lines) p.wires (length p.wires) → OnWays (TakesInOrder (length p.nodes) (steps_of holds p refuses turns seed js rs first are ran) left) p.wires (length p.wires)
       takes_in_order order i w less at =
           let h = wired.rings i w less at in
           let o = order i w less at in

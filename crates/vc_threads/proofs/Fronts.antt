@@ -10,11 +10,11 @@ use Rattle.vc_actor.specs.declared.act.Act.{Act}
 use Rattle.vc_threads.specs.MergedRuns.{of_pair, numbered}
 use Rattle.vc_threads.specs.Private.MergedRuns.{stamp_at, front_of, id_at, IsNext, NotLater, FindsFirst}
 use Rattle.vc_threads.specs.declared.merged_runs.Front.{Front}
-use Rattle.vc_threads.specs.declared.run.ActorRun.{ActorRun}
+use Rattle.vc_threads.specs.declared.act_log.ActorActs.{ActorActs}
 use Rattle.vc_threads.proofs.MergeSteps.{without}
 
 -- the first of the next acts of the first n runs
-abbrev pub IsFirst : List ActorRun → List Front → ℕ → Option (ℕ × ℕ) → Type 0
+abbrev pub IsFirst : List ActorActs → List Front → ℕ → Option (ℕ × ℕ) → Type 0
 IsFirst rs fs n None = (j at : ℕ) → j < n → IsNext fs j at → ⊥
 IsFirst rs fs n (Some p) = (p.1 < length fs) × IsNext fs p.1 p.0 × ((j later : ℕ) → j < n → IsNext fs j later → NotLater rs p.0 p.1 later j)
 
@@ -25,7 +25,7 @@ one_stamp fs k a b (f, at_f, is_a) (g, at_g, is_b) =
     let ab : Some a ≡ Some b = sym is_a ∙ (ap (λ (z : Front). z.at) same ∙ is_b) in
     cc
 
-module _ (rs : List ActorRun) (fs : List Front) (n : ℕ) (f : Front) (here : slice_get fs n ≡ Some f) where
+module _ (rs : List ActorActs) (fs : List Front) (n : ℕ) (f : Front) (here : slice_get fs n ≡ Some f) where
   -- the next run has no act
   no_next : f.at ≡ None → (at : ℕ) → IsNext fs n at → ⊥
   no_next none at (g, at_g, is) =
@@ -105,7 +105,7 @@ pub was_before : (P : ℕ × ℕ → Type 0) (first : Option (ℕ × ℕ)) (b : 
 was_before P None b is h = tt
 was_before P (Some p) b is h = h.0 is
 
-pub first_stays : (rs : List ActorRun) (fs : List Front) (n : ℕ) (f : Front) → slice_get fs n ≡ Some f → (first : Option (ℕ × ℕ)) (at : ℕ) → f.at ≡ Some at → (b : Bool) → b ≡ false
+pub first_stays : (rs : List ActorActs) (fs : List Front) (n : ℕ) (f : Front) → slice_get fs n ≡ Some f → (first : Option (ℕ × ℕ)) (at : ℕ) → f.at ≡ Some at → (b : Bool) → b ≡ false
     → MatchOption first (IsTrue b) (λ p. IsTrue b ↔ ((at < p.0) ⊎ ((at ≡ p.0) × (id_at rs n < id_at rs p.1)))) → IsFirst rs fs n first → IsFirst rs fs (n + 1) first
 first_stays rs fs n f here None at is b not h before = absurd (let t : b ≡ true = h in cc)
 first_stays rs fs n f here (Some p) at is b not h before = first_kept rs fs n f here p at is (λ q. let t : b ≡ true = h.1 q in cc) before
@@ -115,30 +115,30 @@ none_of None h = refl
 none_of (Some x) h = absurd (h x refl)
 
 -- the first of all
-pub found_first : (rs : List ActorRun) (fs : List Front) (n : ℕ) (p : ℕ × ℕ) → length fs ≤ n → IsFirst rs fs n (Some p) → FindsFirst rs fs (Some p.1)
+pub found_first : (rs : List ActorActs) (fs : List Front) (n : ℕ) (p : ℕ × ℕ) → length fs ≤ n → IsFirst rs fs n (Some p) → FindsFirst rs fs (Some p.1)
 found_first rs fs n p past h = (p.0, h.1, λ j later next. h.2 j later (let w = slice_get_within fs j next.0 next.1 in omega (arith, w)) next)
 
-pub found_none : (rs : List ActorRun) (fs : List Front) (n : ℕ) → length fs ≤ n → IsFirst rs fs n None → FindsFirst rs fs None
+pub found_none : (rs : List ActorActs) (fs : List Front) (n : ℕ) → length fs ≤ n → IsFirst rs fs n None → FindsFirst rs fs None
 found_none rs fs n past h k at next = h k at (let w = slice_get_within fs k next.0 next.1 in omega (arith, w)) next
 
 -- the front is that of a place of the run
-abbrev pub StandsAt : ActorRun → Front → Type 0
+abbrev pub StandsAt : ActorActs → Front → Type 0
 StandsAt r f = f.at ≡ stamp_at r f.place
 
-abbrev pub left_in : ActorRun → ℕ → Numbered Act
+abbrev pub left_in : ActorActs → ℕ → Numbered Act
 left_in r place = record { actor = r.id; run = map of_pair (drop place r.acts.items) }
 
 -- what is left of each run
-abbrev pub left_of : List ActorRun → List Front → List (Numbered Act)
+abbrev pub left_of : List ActorActs → List Front → List (Numbered Act)
 left_of [] fs = []
 left_of (r ∷ rs) [] = []
 left_of (r ∷ rs) (f ∷ fs) = left_in r f.place ∷ left_of rs fs
 
-pub stand_first : (rs : List ActorRun) → AllZip StandsAt rs (map (λ r. front_of r 0) rs)
+pub stand_first : (rs : List ActorActs) → AllZip StandsAt rs (map (λ r. front_of r 0) rs)
 stand_first [] = tt
 stand_first (r ∷ rs) = (refl, stand_first rs)
 
-pub left_first : (rs : List ActorRun) → left_of rs (map (λ r. front_of r 0) rs) ≡ map numbered rs
+pub left_first : (rs : List ActorActs) → left_of rs (map (λ r. front_of r 0) rs) ≡ map numbered rs
 left_first [] = refl
 left_first (r ∷ rs) = ap (λ ns. numbered r ∷ ns) (left_first rs)
 
@@ -149,7 +149,7 @@ tail_drop f (x ∷ xs) zero = refl
 tail_drop f (x ∷ xs) (suc p) = tail_drop f xs p
 
 -- one run has come one place further
-pub left_next : (rs : List ActorRun) (fs : List Front) (k : ℕ) (r : ActorRun) (f : Front) → slice_get rs k ≡ Some r → slice_get fs k ≡ Some f → left_of rs (set fs k (front_of r (f.place + 1))) ≡ without (left_of rs fs) k
+pub left_next : (rs : List ActorActs) (fs : List Front) (k : ℕ) (r : ActorActs) (f : Front) → slice_get rs k ≡ Some r → slice_get fs k ≡ Some f → left_of rs (set fs k (front_of r (f.place + 1))) ≡ without (left_of rs fs) k
 left_next [] fs k r f a b = absurd (cc)
 left_next (q ∷ qs) [] k r f a b = absurd (cc)
 left_next (q ∷ qs) (g ∷ gs) zero r f a b =
@@ -159,10 +159,10 @@ left_next (q ∷ qs) (g ∷ gs) zero r f a b =
     ap (λ p. left_in q p ∷ left_of qs gs) next ∙ (λ i. record { actor = q.id; run = tail_drop of_pair q.acts.items g.place i } ∷ left_of qs gs)
 left_next (q ∷ qs) (g ∷ gs) (suc k) r f a b = ap (λ ns. left_in q g.place ∷ ns) (left_next qs gs k r f a b)
 
-pub stand_next : (rs : List ActorRun) (fs : List Front) (k : ℕ) (r : ActorRun) (place : ℕ) → slice_get rs k ≡ Some r → AllZip StandsAt rs fs → AllZip StandsAt rs (set fs k (front_of r place))
+pub stand_next : (rs : List ActorActs) (fs : List Front) (k : ℕ) (r : ActorActs) (place : ℕ) → slice_get rs k ≡ Some r → AllZip StandsAt rs fs → AllZip StandsAt rs (set fs k (front_of r place))
 stand_next [] fs k r p a z = absurd (cc)
 stand_next (q ∷ qs) [] k r p a z = z
-stand_next (q ∷ qs) (g ∷ gs) zero r p a z = let same : q ≡ r = cc in (ap (λ (y : ActorRun). stamp_at y p) (sym same), z.1)
+stand_next (q ∷ qs) (g ∷ gs) zero r p a z = let same : q ≡ r = cc in (ap (λ (y : ActorActs). stamp_at y p) (sym same), z.1)
 stand_next (q ∷ qs) (g ∷ gs) (suc k) r p a z = (z.0, stand_next qs gs k r p a z.1)
 
 -- an act stands at a place
@@ -176,14 +176,14 @@ stamped (Some x) at e = (x, refl, cc)
 stamped None at e = absurd (cc)
 
 -- the next act of a run
-pub record Coming (rs : List ActorRun) (fs : List Front) (k at : ℕ) (run : ActorRun) (front : Front) : Type 0 where
+pub record Coming (rs : List ActorActs) (fs : List Front) (k at : ℕ) (run : ActorActs) (front : Front) : Type 0 where
   pub act : ℕ × Act
   pub act_is : slice_get run.acts.items front.place ≡ Some act
   pub stamp : act.0 ≡ at
   pub id : id_at rs k ≡ run.id
   pub left : slice_get (left_of rs fs) k ≡ Some (left_in run front.place)
 
-pub coming : (rs : List ActorRun) (fs : List Front) (k at : ℕ) (run : ActorRun) (front : Front) → AllZip StandsAt rs fs → slice_get rs k ≡ Some run → slice_get fs k ≡ Some front → IsNext fs k at → Coming rs fs k at run front
+pub coming : (rs : List ActorActs) (fs : List Front) (k at : ℕ) (run : ActorActs) (front : Front) → AllZip StandsAt rs fs → slice_get rs k ≡ Some run → slice_get fs k ≡ Some front → IsNext fs k at → Coming rs fs k at run front
 coming [] fs k at run front z a b next = absurd (cc)
 coming (q ∷ qs) [] k at run front z a b next = absurd z
 coming (q ∷ qs) (g ∷ gs) zero at run front z a b (f, here, is) =
@@ -191,20 +191,20 @@ coming (q ∷ qs) (g ∷ gs) zero at run front z a b (f, here, is) =
     let mine : q ≡ run = cc in
     let its : g ≡ front = cc in
     let x = stamped (slice_get q.acts.items g.place) at (sym z.0 ∙ (ap (λ (y : Front). y.at) same ∙ is)) in
-    subst (λ (y : ActorRun). Coming (q ∷ qs) (g ∷ gs) 0 at y front) mine (subst (λ (y : Front). Coming (q ∷ qs) (g ∷ gs) 0 at q y) its (record { act = x.0; act_is = x.1; stamp = x.2; id = refl; left = refl }))
+    subst (λ (y : ActorActs). Coming (q ∷ qs) (g ∷ gs) 0 at y front) mine (subst (λ (y : Front). Coming (q ∷ qs) (g ∷ gs) 0 at q y) its (record { act = x.0; act_is = x.1; stamp = x.2; id = refl; left = refl }))
 coming (q ∷ qs) (g ∷ gs) (suc k) at run front z a b next =
     let c = coming qs gs k at run front z.1 a b next in
     record { act = c.act; act_is = c.act_is; stamp = c.stamp; id = c.id; left = c.left }
 
-pub run_at : (rs : List ActorRun) (fs : List Front) (k at : ℕ) (run : ActorRun) (front : Front) (c : Coming rs fs k at run front) → map of_pair (drop front.place run.acts.items) ≡ of_pair c.act ∷ map of_pair (drop (suc front.place) run.acts.items)
+pub run_at : (rs : List ActorActs) (fs : List Front) (k at : ℕ) (run : ActorActs) (front : Front) (c : Coming rs fs k at run front) → map of_pair (drop front.place run.acts.items) ≡ of_pair c.act ∷ map of_pair (drop (suc front.place) run.acts.items)
 run_at rs fs k at run front c = drop_at run.acts.items front.place c.act c.act_is
 
 -- a run that has an act left stands before it
-record Standing (rs : List ActorRun) (fs : List Front) (j : ℕ) (q : Numbered Act) (f : Stamped Act) : Type 0 where
+record Standing (rs : List ActorActs) (fs : List Front) (j : ℕ) (q : Numbered Act) (f : Stamped Act) : Type 0 where
   next : IsNext fs j f.at
   id : id_at rs j ≡ q.actor
 
-standing_here : (r : ActorRun) (g : Front) (f : Stamped Act) (more : List (Stamped Act)) → StandsAt r g → map of_pair (drop g.place r.acts.items) ≡ f ∷ more → g.at ≡ Some f.at
+standing_here : (r : ActorActs) (g : Front) (f : Stamped Act) (more : List (Stamped Act)) → StandsAt r g → map of_pair (drop g.place r.acts.items) ≡ f ∷ more → g.at ≡ Some f.at
 standing_here r g f more z e = z ∙ stamp_here r.acts.items g.place e
   where
     stamp_here : (acts : List (ℕ × Act)) (p : ℕ) → map of_pair (drop p acts) ≡ f ∷ more → option_map (λ a. a.0) (slice_get acts p) ≡ Some f.at
@@ -213,7 +213,7 @@ standing_here r g f more z e = z ∙ stamp_here r.acts.items g.place e
     stamp_here (x ∷ xs) zero h = let same : of_pair x ≡ f = cc in ap (λ (s : Stamped Act). Some s.at) same
     stamp_here (x ∷ xs) (suc p) h = stamp_here xs p h
 
-standing : (rs : List ActorRun) (fs : List Front) (j : ℕ) (q : Numbered Act) (f : Stamped Act) (more : List (Stamped Act)) → AllZip StandsAt rs fs → slice_get (left_of rs fs) j ≡ Some q → q.run ≡ f ∷ more → Standing rs fs j q f
+standing : (rs : List ActorActs) (fs : List Front) (j : ℕ) (q : Numbered Act) (f : Stamped Act) (more : List (Stamped Act)) → AllZip StandsAt rs fs → slice_get (left_of rs fs) j ≡ Some q → q.run ≡ f ∷ more → Standing rs fs j q f
 standing [] fs j q f more z e run = absurd (cc)
 standing (r ∷ rs) [] j q f more z e run = absurd z
 standing (r ∷ rs) (g ∷ gs) zero q f more z e run =
@@ -222,7 +222,7 @@ standing (r ∷ rs) (g ∷ gs) zero q f more z e run =
 standing (r ∷ rs) (g ∷ gs) (suc j) q f more z e run = let s = standing rs gs j q f more z.1 e run in record { next = s.next; id = s.id }
 
 -- so the first of all is not after the next act of any run
-pub not_after : (rs : List ActorRun) (fs : List Front) (k at : ℕ) (run : ActorRun) (front : Front) (c : Coming rs fs k at run front) → AllZip StandsAt rs fs → ((j later : ℕ) → IsNext fs j later → NotLater rs at k later j)
+pub not_after : (rs : List ActorActs) (fs : List Front) (k at : ℕ) (run : ActorActs) (front : Front) (c : Coming rs fs k at run front) → AllZip StandsAt rs fs → ((j later : ℕ) → IsNext fs j later → NotLater rs at k later j)
     → (j : ℕ) (q : Numbered Act) (f : Stamped Act) (more : List (Stamped Act)) → slice_get (left_of rs fs) j ≡ Some q → q.run ≡ f ∷ more → NotAfter (record { actor = run.id; act = of_pair c.act }) (record { actor = q.actor; act = f })
 not_after rs fs k at run front c z least j q f more e is =
     let s = standing rs fs j q f more z e is in
@@ -233,7 +233,7 @@ not_after rs fs k at run front c z least j q f more e is =
     by_order s (inr tie) = let a = tie.1 in let b = c.id in let d = s.id in inr (c.stamp ∙ tie.0, omega (arith, a, b, d))
 
 -- where no run comes next, nothing is left
-pub none_left : (rs : List ActorRun) (fs : List Front) → AllZip StandsAt rs fs → ((k at : ℕ) → IsNext fs k at → ⊥) → AllByRecursion (λ (r : Numbered Act). r.run ≡ []) (left_of rs fs)
+pub none_left : (rs : List ActorActs) (fs : List Front) → AllZip StandsAt rs fs → ((k at : ℕ) → IsNext fs k at → ⊥) → AllByRecursion (λ (r : Numbered Act). r.run ≡ []) (left_of rs fs)
 none_left [] fs z h = tt
 none_left (r ∷ rs) [] z h = tt
 none_left (r ∷ rs) (g ∷ gs) z h = (empty (map of_pair (drop g.place r.acts.items)) refl, none_left rs gs z.1 (λ k. h (suc k)))

@@ -100,23 +100,23 @@ put_act Local k link clock old new (t ∷ ts) run h = elim (late_split (put_on l
   | inr later ↦ later_act t ts (put_act Local k link t.at run.0 new ts run.4 later)
 ]
 
-module _ (p : Plan) (refuses : ℕ → ℕ → Type 0) (turns seed : ℕ) (js : List Job) (rs : List ActorRun) (first : AreFirst p (actors p) (map actor_in js)) (are : AreNumbered 0 (map who js)) (ran : AllZip (Ran refuses turns seed) js rs)
+module _ {L : Type 0} (holds : L → ℕ → List (ℕ × Act) → Type 0) (p : Plan) (refuses : ℕ → ℕ → Type 0) (turns seed : ℕ) (js : List Job) (rs : List (ActorRun L)) (first : AreFirst p (actors p) (map actor_in js)) (are : AreNumbered 0 (map who js)) (ran : AllZip (Ran holds refuses turns seed) js rs)
     (e : AllEnds) (outs : map (λ v. v.items) e.outs.items ≡ map outs_left rs) (ins : map (λ v. v.items) e.ins.items ≡ map ins_left rs) (wired : AreWired p (length p.wires) js)
     (lines : List (Vec Token)) (left : OnWays (LeftOn (length p.nodes) e lines) p.wires (length p.wires)) where
-  picked_act : (s link : ℕ) (c : (s < actors p) ⊎ (actors p ≤ s)) → Late (all_put link (pick p refuses turns seed js rs first are ran s c)) → HasGreatest (pick p refuses turns seed js rs first are ran s c)
-  picked_act s link (inl less) h = let d = did p refuses turns seed js rs first are ran s less in put_act (StepsByLink (network_of p)) s link 0 d.done.job.actor d.done.run.actor d.has.steps d.has.run h
+  picked_act : (s link : ℕ) (c : (s < actors p) ⊎ (actors p ≤ s)) → Late (all_put link (pick holds p refuses turns seed js rs first are ran s c)) → HasGreatest (pick holds p refuses turns seed js rs first are ran s c)
+  picked_act s link (inl less) h = let d = did holds p refuses turns seed js rs first are ran s less in put_act (StepsByLink (network_of p)) s link 0 d.done.job.actor d.done.run.actor d.has.steps d.has.run h
   picked_act s link (inr past) h = absurd h
 
   -- an item that waits at a side of a wire was put on the other side
   put_there : (m : ℕ) (w : Wire) (side : Bool) (i : In) → m < length p.wires → slice_get p.wires m ≡ Some w → Contains (ins_at e (actor_of (length p.nodes) (port_of w side).spot)) i → i.0 ≡ (port_of w side).link → IsLate i
-      → (j : ℕ) × HasGreatest (steps_of p refuses turns seed js rs first are ran j)
+      → (j : ℕ) × HasGreatest (steps_of holds p refuses turns seed js rs first are ran j)
   put_there m w side i less is ci at late =
       let from = port_of w (not side) in
       let to = port_of w side in
       let s = actor_of (length p.nodes) from.spot in
-      let put = steps_of p refuses turns seed js rs first are ran s in
+      let put = steps_of holds p refuses turns seed js rs first are ran s in
       let h = ring side in
-      let x = after (Sends put) (outs_of js s) (outs_at e s) h.out (sends p refuses turns seed js rs first are ran e outs ins wired s) h.source in
+      let x = after (Sends put) (outs_of js s) (outs_at e s) h.out (sends holds p refuses turns seed js rs first are ran e outs ins wired s) h.source in
       let a : all_stamped (sent x.it.1) ≡ all_put from.link put = x.is.2 ∙ (ap (λ xs. all_stamped xs ++ all_put h.out.0 put) h.ring.unsent ∙ ap (λ l. all_put l put) h.ring.near) in
       let o = (order side).1 x.it i x.at ci (x.is.0 ∙ h.ring.near) at in
       let front : IsPrefix (received i.1 ++ known_items i.1) (sent x.it.1) = (o.seen.0, append_assoc (received i.1) (known_items i.1) o.seen.0 ∙ (ap (λ xs. received i.1 ++ xs) o.seen.1 ∙ o.order)) in
@@ -130,34 +130,34 @@ module _ (p : Plan) (refuses : ℕ → ℕ → Type 0) (turns seed : ℕ) (js : 
       order true = (2 * m + 1, (left m w less is).1)
       order false = (2 * m, (left m w less is).0)
 
-  waits : (k : ℕ) (i : In) → Contains (ins_at e k) i → IsLate i → (j : ℕ) × HasGreatest (steps_of p refuses turns seed js rs first are ran j)
+  waits : (k : ℕ) (i : In) → Contains (ins_at e k) i → IsLate i → (j : ℕ) × HasGreatest (steps_of holds p refuses turns seed js rs first are ran j)
   waits k i c late =
-      let took = steps_of p refuses turns seed js rs first are ran k in
-      let x = before (Receives took) (ins_of js k) (ins_at e k) i (receives p refuses turns seed js rs first are ran e outs ins wired k) c in
+      let took = steps_of holds p refuses turns seed js rs first are ran k in
+      let x = before (Receives took) (ins_of js k) (ins_at e k) i (receives holds p refuses turns seed js rs first are ran e outs ins wired k) c in
       let on = wired.ins k x.it x.at in
       at_wire x.it.0 x.is.0 on
     where
-      at_wire : (link : ℕ) → i.0 ≡ link → IsOnWire p (length p.wires) k link → (j : ℕ) × HasGreatest (steps_of p refuses turns seed js rs first are ran j)
+      at_wire : (link : ℕ) → i.0 ≡ link → IsOnWire p (length p.wires) k link → (j : ℕ) × HasGreatest (steps_of holds p refuses turns seed js rs first are ran j)
       at_wire link same (m, w, side, less, is, at) =
           let r = and_parts (actor_of (length p.nodes) (port_of w side).spot == k) ((port_of w side).link == link) at in
           let actor = eqb-true (actor_of (length p.nodes) (port_of w side).spot) k r.0 in
           let there = eqb-true (port_of w side).link link r.1 in
           put_there m w side i less is (subst (λ a. Contains (ins_at e a) i) (sym actor) c) (same ∙ sym there) late
 
-  by_clock : (k : ℕ) (d : Did p refuses turns seed js rs first are ran k) → steps_of p refuses turns seed js rs first are ran k ≡ d.has.steps → IsFull (clock_after 0 d.has.steps) d.done.run.ends.ins.items
-      → (j : ℕ) × HasGreatest (steps_of p refuses turns seed js rs first are ran j)
+  by_clock : (k : ℕ) (d : Did holds p refuses turns seed js rs first are ran k) → steps_of holds p refuses turns seed js rs first are ran k ≡ d.has.steps → IsFull (clock_after 0 d.has.steps) d.done.run.ends.ins.items
+      → (j : ℕ) × HasGreatest (steps_of holds p refuses turns seed js rs first are ran j)
   by_clock k d same (inl own) = (k, subst HasGreatest (sym same) (last_act 0 d.has.steps (omega arith) own))
   by_clock k d same (inr (i, c, late)) =
       let left = get_or_from_slice_get (map ins_left rs) k (ins_left d.done.run) [] (slice_get-map ins_left rs k ∙ ap (option_map ins_left) d.done.run_is) in
       let all = ap (λ xs. get_or xs k []) ins ∙ left in
       waits k i (subst (λ xs. Contains xs i) (sym all) c) late
 
-  picked_full : (k : ℕ) (c : (k < actors p) ⊎ (actors p ≤ k)) → steps_of p refuses turns seed js rs first are ran k ≡ pick p refuses turns seed js rs first are ran k c → k < actors p → stop_at rs k ≡ Clock
-      → (j : ℕ) × HasGreatest (steps_of p refuses turns seed js rs first are ran j)
+  picked_full : (k : ℕ) (c : (k < actors p) ⊎ (actors p ≤ k)) → steps_of holds p refuses turns seed js rs first are ran k ≡ pick holds p refuses turns seed js rs first are ran k c → k < actors p → stop_at rs k ≡ Clock
+      → (j : ℕ) × HasGreatest (steps_of holds p refuses turns seed js rs first are ran j)
   picked_full k (inr past) same less stop = absurd (omega (arith, past, less))
   picked_full k (inl within) same less stop =
-      let d = did p refuses turns seed js rs first are ran k within in
-      by_clock k d same (d.has.full (sym (stop_is p refuses turns seed js rs first are ran k d) ∙ stop))
+      let d = did holds p refuses turns seed js rs first are ran k within in
+      by_clock k d same (d.has.full (sym (stop_is holds p refuses turns seed js rs first are ran k d) ∙ stop))
 
-  pub greatest_there : (k : ℕ) → k < actors p → stop_at rs k ≡ Clock → (j : ℕ) × HasGreatest (steps_of p refuses turns seed js rs first are ran j)
+  pub greatest_there : (k : ℕ) → k < actors p → stop_at rs k ≡ Clock → (j : ℕ) × HasGreatest (steps_of holds p refuses turns seed js rs first are ran j)
   greatest_there k = picked_full k (cases_lt k (actors p)) refl

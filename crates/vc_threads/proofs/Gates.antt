@@ -1,6 +1,5 @@
 -- Runs by a gate that closes once every process has ended.
-use Rattle.std.proofs.Common.{◌≡◌, ◌≢◌, ◌↔◌, ℕ, ◌<◌, List, get_or, length, subst, sym, refl}
-use Rattle.vc_actor.specs.Turns.{actors}
+use Rattle.std.proofs.Common.{◌≡◌, ◌≢◌, ◌↔◌, ℕ, ◌<◌, List, length, subst, sym, refl}
 use Rattle.vc_accepted.specs.Process.{Process}
 use Rattle.vc_actor.specs.declared.act.Act.{Act}
 use Rattle.vc_core.specs.State.{State, shown}
@@ -19,7 +18,7 @@ use Rattle.vc_threads.specs.declared.run.Stop.TheVariants.{Gate}
 use Rattle.vc_tokens.specs.declared.token.Token.{Token}
 
 -- what follows from a run that closes otherwise than Done can't be, and what holds where it closes Done, holds
-or_done : (close : Close) (Ended : Type 0) → close ≡ Done ↔ Ended → (close ≢ Done → ⊥) → Ended
+pub or_done : (close : Close) (Ended : Type 0) → close ≡ Done ↔ Ended → (close ≢ Done → ⊥) → Ended
 or_done Done Ended done other = done.0 refl
 or_done Quiet Ended done other = absurd (other (λ e. absurd (cc)))
 or_done Limit Ended done other = absurd (other (λ e. absurd (cc)))
@@ -28,7 +27,7 @@ or_done (Failed k) Ended done other = absurd (other (λ e. absurd (cc)))
 or_done ClockFull Ended done other = absurd (other (λ e. absurd (cc)))
 
 -- a run of one actor, where its gate refused it a turn only if what is said of it holds
-run_behind : (p : Plan) (refuses other : ℕ → ℕ → Type 0) (turns seed k : ℕ) (steps : List (Turn Act Token)) (stop : Stop) (last : net.Actor Process) →
+pub run_behind : (p : Plan) (refuses other : ℕ → ℕ → Type 0) (turns seed k : ℕ) (steps : List (Turn Act Token)) (stop : Stop) (last : net.Actor Process) →
     (stop ≡ Gate → (made : ℕ) → other k made) → IsRunOf p refuses turns seed k steps stop last → IsRunOf p other turns seed k steps stop last
 run_behind p refuses other turns seed k steps stop last may r = record {
   from = r.from;
@@ -48,7 +47,7 @@ run_behind p refuses other turns seed k steps stop last may r = record {
 }
 
 -- a run in threads in which no worker ended by its gate, if it did not close Done
-pub ended_by : (p : Plan) (refuses : ℕ → ℕ → Type 0) (turns seed : ℕ) (events : List Event) (s : State) (stops : List Stop) (close : Close) →
+abbrev pub ended_by : (p : Plan) (refuses : ℕ → ℕ → Type 0) (turns seed : ℕ) (events : List Event) (s : State) (stops : List Stop) (close : Close) →
     (close ≢ Done → NoneStopped (length stops) (stop_among stops) Gate) →
     IsThreadRun p refuses turns seed events s stops close → IsThreadRun p (once_ended p s) turns seed events s stops close
 ended_by p refuses turns seed events s stops close none r = record {

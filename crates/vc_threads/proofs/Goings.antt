@@ -1,5 +1,5 @@
 -- How a turn of a worker_state is put together.
-use Rattle.std.proofs.Common.{◌≡◌, ◌≢◌, ℕ, zero, suc, ◌+◌, ◌<◌, ◌≤◌, List, [], ◌∷◌, ◌++◌, length, get_or, Bool, true, false, Option, eqb, inl, inr, refl, ap, sym, subst, arith, map, ◌∙◌, append_assoc, length-append, eq-eqb}
+use Rattle.std.proofs.Common.{◌≡◌, ◌≢◌, ℕ, zero, suc, ◌+◌, ◌<◌, ◌≤◌, List, [], ◌∷◌, ◌++◌, length, get_or, false, Option, eqb, inl, inr, refl, ap, sym, subst, arith, map, ◌∙◌, append_assoc, length-append, eq-eqb}
 use Rattle.std.specs.Global.{Vec}
 use Rattle.std.specs.List.{AllZip, All, AllByRecursion}
 use Rattle.std.proofs.Math.ListN.{set}
@@ -25,9 +25,9 @@ use Rattle.vc_threads.specs.declared.run.Stop.TheVariants.{Turns, Gate, Clock}
 use Rattle.vc_threads.specs.Stamps.{stamped, all_stamped}
 use Rattle.vc_threads.specs.Wires.{OutLooked, InLooked, Distinct, IsAmong, Sends, Receives, out_links, in_links}
 use Rattle.vc_threads.specs.Runs.{StepsByLink, HasNoStep, Used, Draws, words_of}
-use Rattle.vc_threads.specs.Works.{Out, In, kept, logged, GoesOver, GoOver, TakeFromLeast, IsFull, HasRun}
+use Rattle.vc_threads.specs.Works.{Out, In, logged, GoesOver, GoOver, TakeFromLeast, IsFull, HasRun}
 use Rattle.vc_threads.specs.Private.Rooms.{HasPut}
-use Rattle.vc_threads.specs.Private.Works.{Seen, worker_state, Uses, Stays, TakesTurn, StopsFor}
+use Rattle.vc_threads.specs.Private.Works.{Seen, worker_state, Records, Uses, Stays, TakesTurn, StopsFor}
 use Rattle.vc_threads.proofs.Zips.{zip_weaker, zip_then, zip_one, zip_map, zip_same}
 use Rattle.vc_threads.proofs.Looks.{producer_then, consumer_then, looked_same, in_looked_same, in_looked_then}
 use Rattle.vc_threads.proofs.LeastTakes.{least_looked, least_then, least_end, least_of, same_actor_links}
@@ -149,27 +149,30 @@ looked_out_links = zip_map (λ o. o.0) (λ o. o.0) OutLooked (λ a b l. l.0)
 pub looked_in_links : (os ps : List In) → AllZip InLooked os ps → in_links ps ≡ in_links os
 looked_in_links = zip_map (λ o. o.0) (λ o. o.0) InLooked (λ a b l. l.0)
 
--- no act is kept of none, and of two parts what is kept of each
-kept_none : (b : Bool) → kept b [] ≡ []
-kept_none true = refl
-kept_none false = refl
+-- no act more is recorded, and acts after acts
+module _ {L : Type 0} (holds : L → ℕ → List (ℕ × Act) → Type 0) where
+  pub records_none : (a b : L) → ((k : ℕ) (acts : List (ℕ × Act)) → holds a k acts → holds b k acts) → Records holds [] a b
+  records_none a b keeps k acts h = subst (holds b k) (sym (append-nil acts)) (keeps k acts h)
 
-kept_then : (b : Bool) (ts us : List (Turn Act Token)) → kept b (map logged (ts ++ us)) ≡ kept b (map logged ts) ++ kept b (map logged us)
-kept_then true ts us = map-append logged ts us
-kept_then false ts us = refl
+  pub records_still : (a b : L) → Records holds [] a b → (k : ℕ) (acts : List (ℕ × Act)) → holds a k acts → holds b k acts
+  records_still a b more k acts h = subst (holds b k) (append-nil acts) (more k acts h)
 
-module _ (plan : Plan) (k : ℕ) where
+  records_then : (ts us : List (Turn Act Token)) (a b c : L) → Records holds (map logged ts) a b → Records holds (map logged us) b c → Records holds (map logged (ts ++ us)) a c
+  records_then ts us a b c one two k acts h =
+      subst (holds c k) (append_assoc acts (map logged ts) (map logged us) ∙ ap (λ w. acts ++ w) (sym (map-append logged ts us)))
+      (two k (acts ++ map logged ts) (one k acts h))
+
+module _ {L : Type 0} (holds : L → ℕ → List (ℕ × Act) → Type 0) (plan : Plan) (k : ℕ) where
   -- no step was made, and the actor has none of its own
-  pub uses_idle : (a b : Seen) → HasNoStep plan k a.actor → b.actor ≡ a.actor → b.clock ≡ a.clock → b.keeps ≡ a.keeps → b.log ≡ a.log → b.words ≡ a.words
-      → AllZip OutLooked a.outs b.outs → AllZip InLooked a.ins b.ins → Uses plan k 1 a b
-  uses_idle a b quiet node clock keeps log words outs ins = record {
+  pub uses_idle : (a b : Seen L) → HasNoStep plan k a.actor → b.actor ≡ a.actor → b.clock ≡ a.clock → b.log ≡ a.log → b.words ≡ a.words
+      → AllZip OutLooked a.outs b.outs → AllZip InLooked a.ins b.ins → Uses holds plan k 1 a b
+  uses_idle a b quiet node clock log words outs ins = record {
     steps = [];
     few = omega arith;
     goes = record {
       run = node;
       clock = clock;
-      keeps = keeps;
-      log = log ∙ sym (ap (λ w. a.log ++ w) (kept_none a.keeps) ∙ append-nil a.log);
+      log = records_none holds a.log b.log (λ k acts h. subst (λ l. holds l k acts) (sym log) h);
       outs = sends_quiet [] (λ l. refl) a.outs b.outs outs;
       ins = receives_quiet [] (λ l. refl) a.ins b.ins ins;
       links = tt;
@@ -180,16 +183,15 @@ module _ (plan : Plan) (k : ℕ) where
   }
 
   -- one step was made
-  pub uses_one : (a b : Seen) (t : Turn Act Token) → StepsByLink plan k a.actor (plain t.it) b.actor → t.at ≡ next_stamp a.clock t.it → CarriesStamp t.at t.it
-      → TakeFromLeast a.actor a.ins (t ∷ []) b.ins → GoesOver (out_links a.outs) (in_links a.ins) t.it → b.clock ≡ t.at → b.keeps ≡ a.keeps → b.log ≡ a.log ++ kept a.keeps (logged t ∷ []) → Draws a.words (words_of (t ∷ [])) b.words
-      → AllZip (Sends (t ∷ [])) a.outs b.outs → AllZip (Receives (t ∷ [])) a.ins b.ins → Uses plan k 1 a b
-  uses_one a b t step stamp carries least over clock keeps log words outs ins = record {
+  pub uses_one : (a b : Seen L) (t : Turn Act Token) → StepsByLink plan k a.actor (plain t.it) b.actor → t.at ≡ next_stamp a.clock t.it → CarriesStamp t.at t.it
+      → TakeFromLeast a.actor a.ins (t ∷ []) b.ins → GoesOver (out_links a.outs) (in_links a.ins) t.it → b.clock ≡ t.at → Records holds (logged t ∷ []) a.log b.log → Draws a.words (words_of (t ∷ [])) b.words
+      → AllZip (Sends (t ∷ [])) a.outs b.outs → AllZip (Receives (t ∷ [])) a.ins b.ins → Uses holds plan k 1 a b
+  uses_one a b t step stamp carries least over clock log words outs ins = record {
     steps = t ∷ [];
     few = omega arith;
     goes = record {
       run = (b.actor, step, stamp, carries, refl);
       clock = clock;
-      keeps = keeps;
       log = log;
       outs = outs;
       ins = ins;
@@ -200,16 +202,15 @@ module _ (plan : Plan) (k : ℕ) where
     used = inr (b.actor, (b.actor, step, stamp, carries, refl), refl);
   }
 
-  -- after a look
-  pub uses_looked : (n : ℕ) (a b : Seen) (ins : List In) → AllZip InLooked ins a.ins → Uses plan k n a b → Uses plan k n (record a { ins = ins }) b
-  uses_looked n a b ins looked p = record {
+  -- after room was made, and a look
+  pub uses_looked : (n : ℕ) (a b : Seen L) (log : L) (ins : List In) → Records holds [] log a.log → AllZip InLooked ins a.ins → Uses holds plan k n a b → Uses holds plan k n (record a { log = log; ins = ins }) b
+  uses_looked n a b log ins room looked p = record {
     steps = p.steps;
     few = p.few;
     goes = record {
       run = p.goes.run;
       clock = p.goes.clock;
-      keeps = p.goes.keeps;
-      log = p.goes.log;
+      log = λ j acts h. p.goes.log j acts (records_still holds log a.log room j acts h);
       outs = p.goes.outs;
       ins = looked_receives p.steps ins a.ins b.ins looked p.goes.ins;
       links = subst (λ ls. AllByRecursion (λ t. GoesOver (out_links a.outs) ls t.it) p.steps) (looked_in_links ins a.ins looked) p.goes.links;
@@ -220,15 +221,14 @@ module _ (plan : Plan) (k : ℕ) where
   }
 
   -- no turn
-  pub uses_zero : (a : Seen) → Uses plan k 0 a a
+  pub uses_zero : (a : Seen L) → Uses holds plan k 0 a a
   uses_zero a = record {
     steps = [];
     few = omega arith;
     goes = record {
       run = refl;
       clock = refl;
-      keeps = refl;
-      log = sym (ap (λ w. a.log ++ w) (kept_none a.keeps) ∙ append-nil a.log);
+      log = records_none holds a.log a.log (λ k acts h. h);
       outs = sends_quiet [] (λ l. refl) a.outs a.outs (zip_same OutLooked looked_same a.outs);
       ins = receives_quiet [] (λ l. refl) a.ins a.ins (zip_same InLooked in_looked_same a.ins);
       links = tt;
@@ -239,14 +239,14 @@ module _ (plan : Plan) (k : ℕ) where
   }
 
   -- the ends stay those of the same links
-  outs_same : (n : ℕ) (a b : Seen) → Uses plan k n a b → out_links b.outs ≡ out_links a.outs
+  outs_same : (n : ℕ) (a b : Seen L) → Uses holds plan k n a b → out_links b.outs ≡ out_links a.outs
   outs_same n a b p = zip_map (λ o. o.0) (λ o. o.0) (Sends p.steps) (λ x y l. l.0) a.outs b.outs p.goes.outs
 
-  ins_same : (n : ℕ) (a b : Seen) → Uses plan k n a b → in_links b.ins ≡ in_links a.ins
+  ins_same : (n : ℕ) (a b : Seen L) → Uses holds plan k n a b → in_links b.ins ≡ in_links a.ins
   ins_same n a b p = zip_map (λ o. o.0) (λ o. o.0) (Receives p.steps) (λ x y l. l.0) a.ins b.ins p.goes.ins
 
   -- one turn after another
-  pub uses_then : (n m : ℕ) (a b c : Seen) → IsActorOf plan k a.actor → Uses plan k n a b → Uses plan k m b c → Uses plan k (n + m) a c
+  pub uses_then : (n m : ℕ) (a b c : Seen L) → IsActorOf plan k a.actor → Uses holds plan k n a b → Uses holds plan k m b c → Uses holds plan k (n + m) a c
   uses_then n m a b c of p q =
       let few = p.few in
       let more = q.few in
@@ -257,9 +257,7 @@ module _ (plan : Plan) (k : ℕ) where
         goes = record {
           run = run_then (StepsByLink plan) k a.clock a.actor b.actor c.actor p.steps q.steps p.goes.run run;
           clock = q.goes.clock ∙ (ap (λ w. clock_after w q.steps) p.goes.clock ∙ sym (clock_then a.clock p.steps q.steps));
-          keeps = q.goes.keeps ∙ p.goes.keeps;
-          log = q.goes.log ∙ (ap (λ w. w ++ kept b.keeps (map logged q.steps)) p.goes.log ∙ (ap (λ h. (a.log ++ kept a.keeps (map logged p.steps)) ++ kept h (map logged q.steps)) p.goes.keeps
-              ∙ (append_assoc a.log (kept a.keeps (map logged p.steps)) (kept a.keeps (map logged q.steps)) ∙ ap (λ w. a.log ++ w) (sym (kept_then a.keeps p.steps q.steps)))));
+          log = records_then holds p.steps q.steps a.log b.log c.log p.goes.log q.goes.log;
           outs = sends_then p.steps q.steps a.outs b.outs c.outs p.goes.outs q.goes.outs;
           ins = receives_then p.steps q.steps a.ins b.ins c.ins p.goes.ins q.goes.ins;
           links = all_both (λ t. GoesOver (out_links a.outs) (in_links a.ins) t.it) p.steps q.steps p.goes.links
@@ -282,56 +280,63 @@ low_kept os ps same low j d within =
     let at : (get_or ps j d).0 ≡ (get_or os j d).0 = sym (link_at ps j d within) ∙ (ap (λ ls. get_or ls j 0) same ∙ link_at os j d less) in
     subst (λ (v : ℕ). v < 32) (sym at) (low j d less)
 
-pub stays_same : (a : Seen) → Stays a a
-stays_same a = record { actor = refl; clock = refl; keeps = refl; log = refl; outs = zip_same OutLooked looked_same a.outs; ins = zip_same InLooked in_looked_same a.ins }
+module _ {L : Type 0} (holds : L → ℕ → List (ℕ × Act) → Type 0) where
+  pub stays_same : (a : Seen L) → Stays holds a a
+  stays_same a = record { actor = refl; clock = refl; log = records_none holds a.log a.log (λ k acts h. h); outs = zip_same OutLooked looked_same a.outs; ins = zip_same InLooked in_looked_same a.ins }
 
--- nothing was done after a look
-pub stays_looked : (a b : Seen) (ins : List In) → AllZip InLooked ins a.ins → Stays a b → Stays (record a { ins = ins }) b
-stays_looked a b ins looked p = record { actor = p.actor; clock = p.clock; keeps = p.keeps; log = p.log; outs = p.outs; ins = zip_then InLooked InLooked InLooked in_looked_then ins a.ins b.ins looked p.ins }
+  -- nothing was done after room was made, and a look
+  pub stays_looked : (a b : Seen L) (log : L) (ins : List In) → Records holds [] log a.log → AllZip InLooked ins a.ins → Stays holds a b → Stays holds (record a { log = log; ins = ins }) b
+  stays_looked a b log ins room looked p = record {
+    actor = p.actor;
+    clock = p.clock;
+    log = λ j acts h. p.log j acts (records_still holds log a.log room j acts h);
+    outs = p.outs;
+    ins = zip_then InLooked InLooked InLooked in_looked_then ins a.ins b.ins looked p.ins;
+  }
 
--- a turn after a look, and a stop
-pub turn_looked : (a b : Seen) (ins : List In) (rested : Option ℕ) → AllZip InLooked ins a.ins → TakesTurn a b rested → TakesTurn (record a { ins = ins }) b rested
-turn_looked a b ins rested looked t = record { uses = λ plan k of. uses_looked plan k 1 a b ins looked (t.uses plan k of); rests = t.rests }
+  -- a turn after that, and a stop
+  pub turn_looked : (a b : Seen L) (log : L) (ins : List In) (rested : Option ℕ) → Records holds [] log a.log → AllZip InLooked ins a.ins → TakesTurn holds a b rested → TakesTurn holds (record a { log = log; ins = ins }) b rested
+  turn_looked a b log ins rested room looked t = record { uses = λ plan k of. uses_looked holds plan k 1 a b log ins room looked (t.uses plan k of); rests = t.rests }
 
-pub stop_looked : (a b : Seen) (ins : List In) (why : Stop) → AllZip InLooked ins a.ins → StopsFor a b why → StopsFor (record a { ins = ins }) b why
-stop_looked a b ins why looked s = record { stays = stays_looked a b ins looked s.stays; early = s.early; passed = s.passed; full = s.full }
+  pub stop_looked : (a b : Seen L) (log : L) (ins : List In) (why : Stop) → Records holds [] log a.log → AllZip InLooked ins a.ins → StopsFor holds a b why → StopsFor holds (record a { log = log; ins = ins }) b why
+  stop_looked a b log ins why room looked s = record { stays = stays_looked a b log ins room looked s.stays; early = s.early; passed = s.passed; full = s.full }
 
--- an actor of the plan stays one
-pub actor_kept : (plan : Plan) (k n : ℕ) (a b : Seen) → Uses plan k n a b → IsActorOf plan k a.actor → IsActorOf plan k b.actor
-actor_kept plan k n a b p h = run_kept plan k a.clock a.actor p.steps b.actor p.goes.run h
+  -- an actor of the plan stays one
+  pub actor_kept : (plan : Plan) (k n : ℕ) (a b : Seen L) → Uses holds plan k n a b → IsActorOf plan k a.actor → IsActorOf plan k b.actor
+  actor_kept plan k n a b p h = run_kept plan k a.clock a.actor p.steps b.actor p.goes.run h
 
--- what a worker gives back that made n turns
-pub has_run : (refuses : ℕ → ℕ → Type 0) (plan : Plan) (k n m id seed : ℕ) (a : WorkerState) (b : Seen) (c : WorkerState) (actor : Acting) (ends : Ends) (keeps : Bool) (r : ActorRun)
-    → Uses plan k n (worker_state a) b → Stays b (worker_state c) → n ≤ m
-    → a.actor ≡ actor → a.clock ≡ 0 → a.keeps ≡ keeps → a.acts.items ≡ [] → a.outs.ends ≡ ends.outs → a.ins ≡ ends.ins → a.words ≡ started 64 multiplier_64 seed (increment_of 64 id)
-    → r.actor ≡ c.actor → r.acts ≡ c.acts → r.ends.outs ≡ c.outs.ends → r.ends.ins ≡ c.ins → (r.stop ≡ Turns → n ≡ m) → (r.stop ≡ Gate → (n < m) × refuses id n) → (r.stop ≡ Clock → IsFull c.clock c.ins.items)
-    → HasRun refuses plan k m id seed actor ends keeps r
-has_run refuses plan k n m id seed a b c actor ends keeps r p s le actor_is clock_is keeps_is acts_is outs_is ins_is words_is actor' acts' outs' ins' all gate full =
-    let last : r.actor ≡ b.actor = actor' ∙ s.actor in
-    let outs = sends_looked p.steps a.outs.ends.items b.outs c.outs.ends.items p.goes.outs s.outs in
-    let ins = receives_looked p.steps a.ins.items b.ins c.ins.items p.goes.ins s.ins in
-    record {
-      steps = p.steps;
-      made = n;
-      few = p.few;
-      within = le;
-      run = subst (λ v. LocalRun (StepsByLink plan) k 0 v p.steps r.actor) actor_is
-          (subst (λ w. LocalRun (StepsByLink plan) k w a.actor p.steps r.actor) clock_is
-          (subst (λ v. LocalRun (StepsByLink plan) k a.clock a.actor p.steps v) (sym last) p.goes.run));
-      acts = ap (λ v. v.items) acts' ∙ (s.log ∙ (p.goes.log ∙ (ap (λ w. w ++ kept a.keeps (map logged p.steps)) acts_is ∙ ap (λ h. kept h (map logged p.steps)) keeps_is)));
-      outs = subst (λ (v : Vec Out). AllZip (Sends p.steps) v.items r.ends.outs.items) outs_is (subst (λ (v : Vec Out). AllZip (Sends p.steps) a.outs.ends.items v.items) (sym outs') outs);
-      ins = subst (λ (v : Vec In). AllZip (Receives p.steps) v.items r.ends.ins.items) ins_is (subst (λ (v : Vec In). AllZip (Receives p.steps) a.ins.items v.items) (sym ins') ins);
-      links = subst (λ (v : Vec Out). GoOver v.items ends.ins.items p.steps) outs_is (subst (λ (v : Vec In). GoOver a.outs.ends.items v.items p.steps) ins_is p.goes.links);
-      least = subst (λ v. TakeFromLeast v ends.ins.items p.steps r.ends.ins.items) actor_is
-          (subst (λ (v : Vec In). TakeFromLeast a.actor v.items p.steps r.ends.ins.items) ins_is
-          (subst (λ (v : Vec In). TakeFromLeast a.actor a.ins.items p.steps v.items) (sym ins') (least_end a.actor a.ins.items p.steps b.ins c.ins.items p.goes.least s.ins)));
-      rest = b.words;
-      words = subst (λ g. Draws g (words_of p.steps) b.words) words_is p.goes.words;
-      used = subst (λ v. Used plan k n 0 v p.steps r.actor) actor_is
-          (subst (λ w. Used plan k n w a.actor p.steps r.actor) clock_is
-          (subst (λ v. Used plan k n a.clock a.actor p.steps v) (sym last) p.used));
-      all = all;
-      gate = gate;
-      full = λ h. subst (λ (v : Vec In). IsFull (clock_after 0 p.steps) v.items) (sym ins')
-          (subst (λ w. IsFull w c.ins.items) (s.clock ∙ (p.goes.clock ∙ ap (λ w. clock_after w p.steps) clock_is)) (full h));
-    }
+  -- what a worker gives back that made n turns
+  pub has_run : (refuses : ℕ → ℕ → Type 0) (plan : Plan) (k n m id seed : ℕ) (a : WorkerState L) (b : Seen L) (c : WorkerState L) (actor : Acting) (ends : Ends) (r : ActorRun L)
+      → Uses holds plan k n (worker_state a) b → Stays holds b (worker_state c) → n ≤ m
+      → a.actor ≡ actor → a.clock ≡ 0 → holds a.log id [] → a.outs.ends ≡ ends.outs → a.ins ≡ ends.ins → a.words ≡ started 64 multiplier_64 seed (increment_of 64 id)
+      → r.actor ≡ c.actor → r.log ≡ c.log → r.ends.outs ≡ c.outs.ends → r.ends.ins ≡ c.ins → (r.stop ≡ Turns → n ≡ m) → (r.stop ≡ Gate → (n < m) × refuses id n) → (r.stop ≡ Clock → IsFull c.clock c.ins.items)
+      → HasRun holds refuses plan k m id seed actor ends r
+  has_run refuses plan k n m id seed a b c actor ends r p s le actor_is clock_is none outs_is ins_is words_is actor' log' outs' ins' all gate full =
+      let last : r.actor ≡ b.actor = actor' ∙ s.actor in
+      let outs = sends_looked p.steps a.outs.ends.items b.outs c.outs.ends.items p.goes.outs s.outs in
+      let ins = receives_looked p.steps a.ins.items b.ins c.ins.items p.goes.ins s.ins in
+      record {
+        steps = p.steps;
+        made = n;
+        few = p.few;
+        within = le;
+        run = subst (λ v. LocalRun (StepsByLink plan) k 0 v p.steps r.actor) actor_is
+            (subst (λ w. LocalRun (StepsByLink plan) k w a.actor p.steps r.actor) clock_is
+            (subst (λ v. LocalRun (StepsByLink plan) k a.clock a.actor p.steps v) (sym last) p.goes.run));
+        acts = subst (λ l. holds l id (map logged p.steps)) (sym log') (records_still holds b.log c.log s.log id (map logged p.steps) (p.goes.log id [] none));
+        outs = subst (λ (v : Vec Out). AllZip (Sends p.steps) v.items r.ends.outs.items) outs_is (subst (λ (v : Vec Out). AllZip (Sends p.steps) a.outs.ends.items v.items) (sym outs') outs);
+        ins = subst (λ (v : Vec In). AllZip (Receives p.steps) v.items r.ends.ins.items) ins_is (subst (λ (v : Vec In). AllZip (Receives p.steps) a.ins.items v.items) (sym ins') ins);
+        links = subst (λ (v : Vec Out). GoOver v.items ends.ins.items p.steps) outs_is (subst (λ (v : Vec In). GoOver a.outs.ends.items v.items p.steps) ins_is p.goes.links);
+        least = subst (λ v. TakeFromLeast v ends.ins.items p.steps r.ends.ins.items) actor_is
+            (subst (λ (v : Vec In). TakeFromLeast a.actor v.items p.steps r.ends.ins.items) ins_is
+            (subst (λ (v : Vec In). TakeFromLeast a.actor a.ins.items p.steps v.items) (sym ins') (least_end a.actor a.ins.items p.steps b.ins c.ins.items p.goes.least s.ins)));
+        rest = b.words;
+        words = subst (λ g. Draws g (words_of p.steps) b.words) words_is p.goes.words;
+        used = subst (λ v. Used plan k n 0 v p.steps r.actor) actor_is
+            (subst (λ w. Used plan k n w a.actor p.steps r.actor) clock_is
+            (subst (λ v. Used plan k n a.clock a.actor p.steps v) (sym last) p.used));
+        all = all;
+        gate = gate;
+        full = λ h. subst (λ (v : Vec In). IsFull (clock_after 0 p.steps) v.items) (sym ins')
+            (subst (λ w. IsFull w c.ins.items) (s.clock ∙ (p.goes.clock ∙ ap (λ w. clock_after w p.steps) clock_is)) (full h));
+      }

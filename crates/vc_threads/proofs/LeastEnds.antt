@@ -11,7 +11,7 @@ use Rattle.vc_actor.specs.ActorView.{Acting}
 use Rattle.vc_threads.specs.declared.link.Stamped.{Stamped}
 use Rattle.vc_threads.specs.Stamps.{stamped}
 use Rattle.vc_threads.specs.Wires.{Distinct, Receives, in_links}
-use Rattle.vc_threads.specs.Works.{In, CanTake, IsFromLeast, Passed, seen_in}
+use Rattle.vc_threads.specs.Works.{In, CanTake, Passed, seen_in}
 use Rattle.vc_threads.specs.Private.Least.{TakesLeast}
 use Rattle.vc_threads.proofs.Zips.{zip_one}
 use Rattle.vc_threads.proofs.Goings.{any_default, receives_one}

@@ -1,5 +1,5 @@
 -- What the runs of all jobs report.
-use Rattle.std.proofs.Common.{◌≡◌, ℕ, zero, suc, ◌+◌, ◌<◌, ◌≤◌, ◌==◌, ◌⊎◌, inl, inr, Bool, true, false, nat_lt, if◌then◌else◌, List, [], ◌∷◌, length, map, slice_get, option_map, Some, None, refl, ap, sym, subst, ◌∙◌, arith, eq-eqb}
+use Rattle.std.proofs.Common.{◌≡◌, ℕ, zero, suc, ◌+◌, ◌<◌, ◌≤◌, ◌⊎◌, inl, inr, false, nat_lt, if◌then◌else◌, List, [], ◌∷◌, length, map, slice_get, option_map, Some, None, refl, ap, sym, subst, ◌∙◌, arith}
 use Rattle.std.specs.List.{AllZip, Contains}
 use Rattle.std.proofs.lemmas.Bool.{cases_lt}
 use Rattle.std.proofs.lemmas.Bool.Decides.{nat_tests}
@@ -11,7 +11,7 @@ use Rattle.rand_pcg.specs.Pcg.{multiplier_64}
 use Rattle.vc_accepted.specs.NetworkOf.{network_of}
 use Rattle.vc_network.specs.Actors.{act_of}
 use Rattle.vc_network.specs.LocalRun.{Turn, restamped}
-use Rattle.vc_network.specs.Merge.{Made, IsMerge, StampsRise, run_of}
+use Rattle.vc_network.specs.Merge.{Made, IsMerge, StampsRise}
 use Rattle.vc_actor.specs.Begin.{AreFirst, BeginsAs}
 use Rattle.vc_actor.specs.OfPlan.{IsActorOf}
 use Rattle.vc_actor.specs.ActorView.{Acting, actor_of}
@@ -28,13 +28,13 @@ use Rattle.vc_packets.specs.Functions.{shown_or}
 use Rattle.vc_vcp.specs.Links.{new_vcp}
 use Rattle.vc_threads.specs.Private.Close.{AreInOrder, stop_in, stop_at}
 use Rattle.vc_threads.specs.Jobs.{Ran}
-use Rattle.vc_threads.specs.MergedRuns.{of_pair, numbered}
-use Rattle.vc_threads.specs.Private.Order.{actor_left}
+use Rattle.vc_threads.specs.MergedRuns.{of_pair}
+use Rattle.vc_threads.specs.Private.Order.{actor_left, log_left}
 use Rattle.vc_threads.specs.Private.Rings.{AreWired, outs_in, ins_in}
 use Rattle.vc_threads.specs.Runs.{Draws, words_of}
-use Rattle.vc_threads.specs.Private.Threads.{AllKeep, AreNumbered, actor_in, who}
+use Rattle.vc_threads.specs.Private.Threads.{AreNumbered, actor_in, who}
 use Rattle.vc_threads.specs.Threads.{IsRunOf}
-use Rattle.vc_threads.specs.Works.{kept, logged, HasRun}
+use Rattle.vc_threads.specs.Works.{logged, HasRun}
 use Rattle.vc_threads.specs.declared.spawn.Job.{Job}
 use Rattle.vc_threads.specs.declared.run.ActorRun.{ActorRun}
 use Rattle.vc_threads.specs.declared.run.Stop.TheVariants.{Turns}
@@ -45,19 +45,18 @@ use Rattle.vc_threads.proofs.Steps.{run_kept}
 use Rattle.vc_threads.proofs.Zips.{zip_length}
 
 -- the job and the run of actor n + k, where the jobs are numbered from n on
-pub record Done (refuses : ℕ → ℕ → Type 0) (turns seed n k : ℕ) (js : List Job) (rs : List ActorRun) : Type 0 where
+pub record Done {L : Type 0} (holds : L → ℕ → List (ℕ × Act) → Type 0) (refuses : ℕ → ℕ → Type 0) (turns seed n k : ℕ) (js : List Job) (rs : List (ActorRun L)) : Type 0 where
   pub job : Job
-  pub run : ActorRun
+  pub run : ActorRun L
   pub job_is : slice_get js k ≡ Some job
   pub run_is : slice_get rs k ≡ Some run
   pub id : job.id ≡ n + k
-  pub ran : Ran refuses turns seed job run
-  pub acts : run_of (map numbered rs) (n + k) ≡ map of_pair run.acts.items
+  pub ran : Ran holds refuses turns seed job run
 
-pub done_at : (refuses : ℕ → ℕ → Type 0) (turns seed n k : ℕ) (js : List Job) (rs : List ActorRun) → AreNumbered n (map who js) → AllZip (Ran refuses turns seed) js rs → k < length js → Done refuses turns seed n k js rs
-done_at refuses turns seed n k [] rs are ran less = absurd (omega (arith, less))
-done_at refuses turns seed n k (j ∷ js) [] are ran less = absurd ran
-done_at refuses turns seed n zero (j ∷ js) (r ∷ rs) are ran less =
+pub done_at : {L : Type 0} (holds : L → ℕ → List (ℕ × Act) → Type 0) (refuses : ℕ → ℕ → Type 0) (turns seed n k : ℕ) (js : List Job) (rs : List (ActorRun L)) → AreNumbered n (map who js) → AllZip (Ran holds refuses turns seed) js rs → k < length js → Done holds refuses turns seed n k js rs
+done_at holds refuses turns seed n k [] rs are ran less = absurd (omega (arith, less))
+done_at holds refuses turns seed n k (j ∷ js) [] are ran less = absurd ran
+done_at holds refuses turns seed n zero (j ∷ js) (r ∷ rs) are ran less =
     let none : n ≡ n + 0 = omega arith in
     record {
       job = j;
@@ -66,13 +65,10 @@ done_at refuses turns seed n zero (j ∷ js) (r ∷ rs) are ran less =
       run_is = refl;
       id = are.0 ∙ none;
       ran = ran.0;
-      acts = ap (λ b. if b then map of_pair r.acts.items else run_of (map numbered rs) (n + 0)) (eq-eqb r.id (n + 0) (ran.0.0 ∙ (are.0 ∙ none)));
     }
-done_at refuses turns seed n (suc k) (j ∷ js) (r ∷ rs) are ran less =
-    let d = done_at refuses turns seed (n + 1) k js rs are.1 ran.1 (omega (arith, less)) in
-    let e : r.id ≡ n = ran.0.0 ∙ are.0 in
+done_at holds refuses turns seed n (suc k) (j ∷ js) (r ∷ rs) are ran less =
+    let d = done_at holds refuses turns seed (n + 1) k js rs are.1 ran.1 (omega (arith, less)) in
     let same : n + 1 + k ≡ n + suc k = omega arith in
-    let other : (r.id == n + suc k) ≡ false = grind (arith, nat_tests) in
     record {
       job = d.job;
       run = d.run;
@@ -80,52 +76,27 @@ done_at refuses turns seed n (suc k) (j ∷ js) (r ∷ rs) are ran less =
       run_is = d.run_is;
       id = d.id ∙ same;
       ran = d.ran;
-      acts = ap (λ b. if b then map of_pair r.acts.items else run_of (map numbered rs) (n + suc k)) other ∙ (ap (run_of (map numbered rs)) (sym same) ∙ d.acts);
     }
 
--- whether the worker of a job keeps its acts
-keeps_at : (b : Bool) (js : List Job) (k : ℕ) (job : Job) → slice_get js k ≡ Some job → AllKeep b (map who js) → job.keeps ≡ b
-keeps_at b [] k job here keep = absurd (cc)
-keeps_at b (j ∷ js) zero job here keep = let same : j ≡ job = cc in ap (λ (x : Job). x.keeps) (sym same) ∙ keep.0
-keeps_at b (j ∷ js) (suc k) job here keep = keeps_at b js k job here keep.1
-
--- past the jobs there is no run
-pub none_past : (refuses : ℕ → ℕ → Type 0) (turns seed n i : ℕ) (js : List Job) (rs : List ActorRun) → AreNumbered n (map who js) → AllZip (Ran refuses turns seed) js rs → n + length js ≤ i → run_of (map numbered rs) i ≡ []
-none_past refuses turns seed n i [] [] are ran past = refl
-none_past refuses turns seed n i [] (r ∷ rs) are ran past = absurd ran
-none_past refuses turns seed n i (j ∷ js) [] are ran past = absurd ran
-none_past refuses turns seed n i (j ∷ js) (r ∷ rs) are ran past =
-    let e : r.id ≡ n = ran.0.0 ∙ are.0 in
-    let less : n < i = omega (arith, past) in
-    let other : (r.id == i) ≡ false = grind (arith, nat_tests) in
-    ap (λ b. if b then map of_pair r.acts.items else run_of (map numbered rs) i) other ∙ none_past refuses turns seed (n + 1) i js rs are.1 ran.1 (omega (arith, past))
-
-module _ (p : Plan) (refuses : ℕ → ℕ → Type 0) (turns seed : ℕ) (js : List Job) (rs : List ActorRun) (first : AreFirst p (actors p) (map actor_in js)) (are : AreNumbered 0 (map who js)) (ran : AllZip (Ran refuses turns seed) js rs) where
+module _ {L : Type 0} (holds : L → ℕ → List (ℕ × Act) → Type 0) (p : Plan) (refuses : ℕ → ℕ → Type 0) (turns seed : ℕ) (js : List Job) (rs : List (ActorRun L)) (first : AreFirst p (actors p) (map actor_in js)) (are : AreNumbered 0 (map who js)) (ran : AllZip (Ran holds refuses turns seed) js rs) where
   pub jobs_count : length js ≡ actors p
   jobs_count = sym (length-map js actor_in) ∙ first.count
 
   pub runs_count : length rs ≡ actors p
-  runs_count = zip_length (Ran refuses turns seed) js rs ran ∙ jobs_count
+  runs_count = zip_length (Ran holds refuses turns seed) js rs ran ∙ jobs_count
 
   -- the job of an actor, its run, and what the run did
   pub record Did (k : ℕ) : Type 0 where
-    pub done : Done refuses turns seed 0 k js rs
+    pub done : Done holds refuses turns seed 0 k js rs
     pub begins : BeginsAs p k done.job.actor
-    pub has : HasRun refuses (network_of p) k turns done.job.id seed done.job.actor done.job.ends done.job.keeps done.run
+    pub has : HasRun holds refuses (network_of p) k turns done.job.id seed done.job.actor done.job.ends done.run
 
   pub did : (k : ℕ) → k < actors p → Did k
   did k less =
       let n = jobs_count in
-      let d = done_at refuses turns seed 0 k js rs are ran (omega (arith, n, less)) in
+      let d = done_at holds refuses turns seed 0 k js rs are ran (omega (arith, n, less)) in
       let b = first.each k d.job.actor (slice_get-map actor_in js k ∙ ap (option_map actor_in) d.job_is) in
       record { done = d; begins = b; has = d.ran.1 (network_of p) k b.is }
-
-  did_acts : AllKeep true (map who js) → (k : ℕ) (d : Did k) → run_of (map numbered rs) k ≡ map (restamped act_of) d.has.steps
-  did_acts keep k d =
-      let at : 0 + k ≡ k = omega arith in
-      let kept_all : d.done.job.keeps ≡ true = keeps_at true js k d.done.job d.done.job_is keep in
-      ap (run_of (map numbered rs)) (sym at)
-      ∙ (d.done.acts ∙ (ap (map of_pair) (d.has.acts ∙ ap (λ b. kept b (map logged d.has.steps)) kept_all) ∙ map-map of_pair logged d.has.steps))
 
   abbrev pub pick : (k : ℕ) → (k < actors p) ⊎ (actors p ≤ k) → List (Turn Act Token)
   pick k (inl less) = (did k less).has.steps
@@ -139,16 +110,8 @@ module _ (p : Plan) (refuses : ℕ → ℕ → Type 0) (turns seed : ℕ) (js : 
   picked_none k (inl less) past = absurd (omega (arith, past, less))
   picked_none k (inr beyond) past = refl
 
-  picked_acts : AllKeep true (map who js) → (k : ℕ) (c : (k < actors p) ⊎ (actors p ≤ k)) → run_of (map numbered rs) k ≡ map (restamped act_of) (pick k c)
-  picked_acts keep k (inl less) = did_acts keep k (did k less)
-  picked_acts keep k (inr past) = let n = jobs_count in none_past refuses turns seed 0 k js rs are ran (omega (arith, n, past))
-
   pub no_run : (k : ℕ) → actors p ≤ k → steps_of k ≡ []
   no_run k past = picked_none k (cases_lt k (actors p)) past
-
-  -- their acts are merged, where they are kept
-  pub acts_merged : AllKeep true (map who js) → (merged : List (Made Act)) → IsMerge (run_of (map numbered rs)) merged → IsMerge (λ k. map (restamped act_of) (steps_of k)) merged
-  acts_merged keep merged m = record { ordered = m.ordered; parts = λ k. m.parts k ∙ picked_acts keep k (cases_lt k (actors p)) }
 
   picked_rise : (k : ℕ) (c : (k < actors p) ⊎ (actors p ≤ k)) → StampsRise (map (restamped act_of) (pick k c))
   picked_rise k (inl less) =
@@ -156,9 +119,26 @@ module _ (p : Plan) (refuses : ℕ → ℕ → Type 0) (turns seed : ℕ) (js : 
       subst StampsRise (map-map of_pair logged d.has.steps) (steps_rise (network_of p) k d.done.job.actor d.done.run.actor d.has.steps d.has.run)
   picked_rise k (inr past) = tt
 
-  -- and they have a merge, kept or not
+  -- and they have a merge
   pub have_merge : (merged : List (Made Act)) × IsMerge (λ k. map (restamped act_of) (steps_of k)) merged
   have_merge = merges (λ k. map (restamped act_of) (steps_of k)) (actors p) (λ k. picked_rise k (cases_lt k (actors p))) (λ k past. ap (map (restamped act_of)) (no_run k past))
+
+  -- each log holds what its actor did
+  picked_logs : (k : ℕ) (c : (k < actors p) ⊎ (actors p ≤ k)) (log : L) → slice_get (map log_left rs) k ≡ Some log → holds log k (map logged (pick k c))
+  picked_logs k (inl less) log here =
+      let d = did k less in
+      let at : 0 + k ≡ k = omega arith in
+      let both : Some d.done.run.log ≡ Some log = sym (slice_get-map log_left rs k ∙ ap (option_map log_left) d.done.run_is) ∙ here in
+      let same : d.done.run.log ≡ log = cc in
+      subst (λ l. holds l k (map logged d.has.steps)) same (subst (λ i. holds d.done.run.log i (map logged d.has.steps)) (d.done.id ∙ at) d.has.acts)
+  picked_logs k (inr past) log here =
+      let n = runs_count in
+      let m = length-map rs log_left in
+      let within = slice_get_within (map log_left rs) k log here in
+      absurd (omega (arith, n, m, within, past))
+
+  pub logs_hold : (k : ℕ) (log : L) → slice_get (map log_left rs) k ≡ Some log → holds log k (map logged (steps_of k))
+  logs_hold k log here = picked_logs k (cases_lt k (actors p)) log here
 
   -- where each actor's run led
   abbrev pub pick_last : (k : ℕ) → (k < actors p) ⊎ (actors p ≤ k) → Actor Process
@@ -233,14 +213,13 @@ module _ (p : Plan) (refuses : ℕ → ℕ → Type 0) (turns seed : ℕ) (js : 
   ends_there k = picked_there k (cases_lt k (actors p))
 
 -- the runs stand in the order of their actors
-pub in_order : (refuses : ℕ → ℕ → Type 0) (turns seed : ℕ) (js : List Job) (rs : List ActorRun) → AreNumbered 0 (map who js) → AllZip (Ran refuses turns seed) js rs → AreInOrder rs
-in_order refuses turns seed js rs are ran k r here =
-    let n = zip_length (Ran refuses turns seed) js rs ran in
-    let within = slice_get_within rs k r here in
-    let d = done_at refuses turns seed 0 k js rs are ran (omega (arith, n, within)) in
-    let same : d.run ≡ r = some_is d.run r (sym d.run_is ∙ here) in
-    let at : 0 + k ≡ k = omega arith in
-    ap (λ (x : ActorRun). x.id) (sym same) ∙ (d.ran.0 ∙ (d.id ∙ at))
-  where
-    some_is : (x y : ActorRun) → Some x ≡ Some y → x ≡ y
-    some_is x y e = cc
+module _ {L : Type 0} (holds : L → ℕ → List (ℕ × Act) → Type 0) where
+  pub in_order : (refuses : ℕ → ℕ → Type 0) (turns seed : ℕ) (js : List Job) (rs : List (ActorRun L)) → AreNumbered 0 (map who js) → AllZip (Ran holds refuses turns seed) js rs → AreInOrder rs
+  in_order refuses turns seed js rs are ran k r here =
+      let n = zip_length (Ran holds refuses turns seed) js rs ran in
+      let within = slice_get_within rs k r here in
+      let d = done_at holds refuses turns seed 0 k js rs are ran (omega (arith, n, within)) in
+      let both : Some d.run ≡ Some r = sym d.run_is ∙ here in
+      let same : d.run ≡ r = cc in
+      let at : 0 + k ≡ k = omega arith in
+      ap (λ (x : ActorRun L). x.id) (sym same) ∙ (d.ran.0 ∙ (d.id ∙ at))

@@ -9,12 +9,12 @@ use Rattle.vc_actor.specs.declared.act.Act.{Act}
 use Rattle.vc_threads.specs.MergedRuns.{of_pair}
 use Rattle.vc_threads.specs.Private.MergedRuns.{front_of, id_at, IsNext, NotLater, FindsFirst, FindsWith, HavePassed, IdsRise}
 use Rattle.vc_threads.specs.declared.merged_runs.Front.{Front}
-use Rattle.vc_threads.specs.declared.run.ActorRun.{ActorRun}
+use Rattle.vc_threads.specs.declared.act_log.ActorActs.{ActorActs}
 use Rattle.vc_threads.proofs.Fronts.{Coming, left_of, left_in, stamped}
 use Rattle.vc_switch.proofs.ListWrites.{all-at}
 
 -- the first with the stamp that none is below comes first of all
-pub found_with : (rs : List ActorRun) (fs : List Front) (in_order : Bool) (from at k : ℕ) → length fs ≡ length rs → IsTrue in_order → IdsRise rs → HavePassed fs in_order from at → FindsWith fs from at (Some k) → FindsFirst rs fs (Some k)
+pub found_with : (rs : List ActorActs) (fs : List Front) (in_order : Bool) (from at k : ℕ) → length fs ≡ length rs → IsTrue in_order → IdsRise rs → HavePassed fs in_order from at → FindsWith fs from at (Some k) → FindsFirst rs fs (Some k)
 found_with rs fs in_order from at k count sure rise passed found = (at, found.1, not_later)
   where
     not_later : (j later : ℕ) → IsNext fs j later → NotLater rs at k later j
@@ -59,7 +59,7 @@ later_on (u ∷ v ∷ vs) zero x y a b h =
     omega (arith, e, f, less)
 later_on (u ∷ us) (suc p) x y a b h = later_on us p x y a b h
 
-module _ (rs : List ActorRun) (fs : List Front) (k at : ℕ) (r : ActorRun) (f : Front) (c : Coming rs fs k at r f) (rising : AllByRecursion RunRises (left_of rs fs)) where
+module _ (rs : List ActorActs) (fs : List Front) (k at : ℕ) (r : ActorActs) (f : Front) (c : Coming rs fs k at r f) (rising : AllByRecursion RunRises (left_of rs fs)) where
   own_later : (later : ℕ) → (front_of r (f.place + 1)).at ≡ Some later → at < later
   own_later later is =
       let x = stamped (slice_get r.acts.items (f.place + 1)) later is in

@@ -1,4 +1,6 @@
+use denote.RattleType.{RattleType}
 use denote.Param.Send.{IsSend, sendable}
+use denote.Param.SendFields.{declared_send}
 use Rattle.vc_actor.specs.contracts.actor.Actor as Actor
 use Rattle.vc_actor.specs.contracts.actor.Part as Part
 use Rattle.vc_actor.specs.contracts.node_actor.NodeActor as NodeActor
@@ -14,7 +16,6 @@ use Rattle.vc_process.proofs.datum.Datum.TheSendSync as datum
 use Rattle.vc_occam.specs.contracts.moves.Move as Move
 use Rattle.vc_occam.proofs.moves.Move.TheSendSync as move
 use Rattle.vc_occam.proofs.waiters.Waiters.TheSendSync as waiters
-use Rattle.vc_actor.proofs.act.Act.TheSendSync as act
 use Rattle.vc_threads.specs.contracts.spawn.Job as Job
 use Rattle.vc_threads.specs.contracts.run.ActorRun as ActorRun
 use Rattle.vc_threads.proofs.link.Ends.TheSendSync as ends
@@ -42,8 +43,10 @@ part_field = search (sendable, node_actor_field, switch.the_field_send) depth 20
 pub actor_send : IsSend Actor.the_row
 actor_send = search (sendable, part_field) depth 20
 
-pub run_send : IsSend ActorRun.the_row
-run_send = search (sendable, crosses, actor_send, ends.the_field_send, stop.the_field_send, act.the_send) depth 20 fits 20000
+pub run_send : (L : RattleType) → IsSend L → IsSend (ActorRun.the_row L)
+run_send L its =
+    declared_send (ActorRun.the_type L)
+    (search sendable, (search (sendable, crosses, actor_send) depth 20, (search (sendable, its), (search (sendable, crosses, ends.the_field_send) depth 20, (search (sendable, stop.the_field_send), tt)))))
 
 pub job_send : IsSend Job.the_row
 job_send = search (sendable, crosses, actor_send, ends.the_field_send) depth 20 fits 20000

@@ -1,22 +1,20 @@
--- The runs that workers give back can be merged: their stamps rise, and no two are of one actor.
-use Rattle.std.proofs.Common.{◌≡◌, ℕ, ◌+◌, ◌<◌, Bool, true, false, List, [], ◌∷◌, map, sym, subst, ◌∙◌, arith}
-use Rattle.std.specs.List.{AllZip, AllByRecursion}
-use Rattle.vc_network.specs.Actors.{Label}
+-- The acts that logs keep can be merged: their stamps rise, and no two logs are of one actor.
+use Rattle.std.proofs.Common.{◌≡◌, ◌==◌, ℕ, zero, suc, ◌+◌, ◌<◌, ◌≤◌, false, if◌then◌else◌, List, [], ◌∷◌, length, map, slice_get, Some, refl, ap, sym, subst, ◌∙◌, arith, eq-eqb}
+use Rattle.std.specs.List.{AllByRecursion}
+use Rattle.std.proofs.lemmas.Bool.Decides.{nat_tests}
+use Rattle.std.proofs.lemmas.Simd.{map-map}
+use Rattle.vc_network.specs.Actors.{Label, act_of}
 use Rattle.vc_network.specs.Actors.Label.{Own}
-use Rattle.vc_network.specs.LocalRun.{Stamped, Turn, LocalRun, next_stamp}
-use Rattle.vc_network.specs.Merge.{Rises, RunRises, StampsRise, AreDistinct, Numbered}
+use Rattle.vc_network.specs.LocalRun.{Stamped, Turn, LocalRun, next_stamp, restamped}
+use Rattle.vc_network.specs.Merge.{Rises, RunRises, StampsRise, AreDistinct, Numbered, run_of}
 use Rattle.vc_actor.specs.ActorView.{Acting}
 use Rattle.vc_actor.specs.declared.act.Act.{Act}
 use Rattle.vc_network.specs.Plan.{Plan}
 use Rattle.vc_tokens.specs.declared.token.Token.{Token}
-use Rattle.vc_threads.specs.Private.Jobs.{IsFit}
-use Rattle.vc_threads.specs.Jobs.{Ran}
 use Rattle.vc_threads.specs.MergedRuns.{of_pair, numbered}
 use Rattle.vc_threads.specs.Runs.{StepsByLink}
-use Rattle.vc_threads.specs.Private.Threads.{AreNumbered, who}
-use Rattle.vc_threads.specs.Works.{kept, logged}
-use Rattle.vc_threads.specs.declared.spawn.Job.{Job}
-use Rattle.vc_threads.specs.declared.run.ActorRun.{ActorRun}
+use Rattle.vc_threads.specs.Works.{logged}
+use Rattle.vc_threads.specs.declared.act_log.ActorActs.{ActorActs}
 
 after : {A I : Type 0} (clock : ℕ) (l : Label A (Stamped I)) → clock < next_stamp clock l
 after clock (Own act) = omega arith
@@ -30,41 +28,60 @@ from_rises : {A : Type 0} (clock : ℕ) (ss : List (Stamped A)) → Rises clock 
 from_rises clock [] h = tt
 from_rises clock (s ∷ ss) h = h.1
 
-kept_rises : (b : Bool) (acts : List (ℕ × Act)) → StampsRise (map of_pair acts) → StampsRise (map of_pair (kept b acts))
-kept_rises true acts h = h
-kept_rises false acts h = tt
-
--- what an actor did rises, whether it is kept or not
+-- what an actor did rises
 pub steps_rise : (plan : Plan) (k : ℕ) (old new : Acting) (ts : List (Turn Act Token)) → LocalRun (StepsByLink plan) k 0 old ts new → StampsRise (map of_pair (map logged ts))
 steps_rise plan k old new ts h = from_rises 0 (map of_pair (map logged ts)) (log_rises plan k 0 old new ts h)
 
-one_rises : (refuses : ℕ → ℕ → Type 0) (turns seed : ℕ) (j : Job) (r : ActorRun) → IsFit j → Ran refuses turns seed j r → RunRises (numbered r)
-one_rises refuses turns seed j r fit ran =
-    let plan = fit.actor.0 in
-    let k = fit.actor.1 in
-    let run = ran.1 plan k fit.actor.2 in
-    subst (λ xs. StampsRise (map of_pair xs)) (sym run.acts)
-    (kept_rises j.keeps (map logged run.steps) (from_rises 0 (map of_pair (map logged run.steps)) (log_rises plan k 0 j.actor r.actor run.steps run.run)))
+module _ (runs : ℕ → List (Turn Act Token)) where
+  -- the log holds what actor k did
+  abbrev pub HasActs : ActorActs → ℕ → Type 0
+  HasActs l k = (l.id ≡ k) × (l.acts.items ≡ map logged (runs k))
 
-pub all_rise : (refuses : ℕ → ℕ → Type 0) (turns seed : ℕ) (js : List Job) (rs : List ActorRun) → AllByRecursion IsFit js → AllZip (Ran refuses turns seed) js rs → AllByRecursion RunRises (map numbered rs)
-all_rise refuses turns seed [] [] fit ran = tt
-all_rise refuses turns seed [] (r ∷ rs) fit ran = absurd ran
-all_rise refuses turns seed (j ∷ js) [] fit ran = absurd ran
-all_rise refuses turns seed (j ∷ js) (r ∷ rs) fit ran = (one_rises refuses turns seed j r fit.0 ran.0, all_rise refuses turns seed js rs fit.1 ran.1)
+  -- the logs hold what the actors did, from actor n on
+  abbrev pub HaveActs : ℕ → List ActorActs → Type 0
+  HaveActs n [] = Unit {0}
+  HaveActs n (l ∷ ls) = HasActs l n × HaveActs (n + 1) ls
 
--- an actor that comes before those numbered from n on is none of them
-apart : (refuses : ℕ → ℕ → Type 0) (turns seed i n : ℕ) (js : List Job) (rs : List ActorRun) → i < n → AreNumbered n (map who js) → AllZip (Ran refuses turns seed) js rs → AllByRecursion (λ (s : Numbered Act). i ≡ s.actor → ⊥) (map numbered rs)
-apart refuses turns seed i n [] [] less is ran = tt
-apart refuses turns seed i n [] (r ∷ rs) less is ran = absurd ran
-apart refuses turns seed i n (j ∷ js) [] less is ran = absurd ran
-apart refuses turns seed i n (j ∷ js) (r ∷ rs) less is ran =
-    let e : r.id ≡ n = ran.0.0 ∙ is.0 in
-    ((λ same. omega (arith, e, same, less)), apart refuses turns seed i (n + 1) js rs (omega (arith, less)) is.1 ran.1)
+  pub have_acts : (n : ℕ) (ls : List ActorActs) → ((k : ℕ) (l : ActorActs) → slice_get ls k ≡ Some l → HasActs l (n + k)) → HaveActs n ls
+  have_acts n [] each = tt
+  have_acts n (l ∷ ls) each =
+      let none : n + 0 ≡ n = omega arith in
+      (subst (HasActs l) none (each 0 l refl), have_acts (n + 1) ls (λ k m here. let more : n + suc k ≡ n + 1 + k = omega arith in subst (HasActs m) more (each (suc k) m here)))
 
-pub all_apart : (refuses : ℕ → ℕ → Type 0) (turns seed n : ℕ) (js : List Job) (rs : List ActorRun) → AreNumbered n (map who js) → AllZip (Ran refuses turns seed) js rs → AreDistinct (map numbered rs)
-all_apart refuses turns seed n [] [] is ran = tt
-all_apart refuses turns seed n [] (r ∷ rs) is ran = absurd ran
-all_apart refuses turns seed n (j ∷ js) [] is ran = absurd ran
-all_apart refuses turns seed n (j ∷ js) (r ∷ rs) is ran =
-    let e : r.id ≡ n = ran.0.0 ∙ is.0 in
-    (subst (λ i. AllByRecursion (λ (s : Numbered Act). i ≡ s.actor → ⊥) (map numbered rs)) (sym e) (apart refuses turns seed n (n + 1) js rs (omega arith) is.1 ran.1), all_apart refuses turns seed (n + 1) js rs is.1 ran.1)
+  pub all_rise : (n : ℕ) (ls : List ActorActs) → ((k : ℕ) → StampsRise (map of_pair (map logged (runs k)))) → HaveActs n ls → AllByRecursion RunRises (map numbered ls)
+  all_rise n [] rise have = tt
+  all_rise n (l ∷ ls) rise have = (subst (λ acts. StampsRise (map of_pair acts)) (sym have.0.1) (rise n), all_rise (n + 1) ls rise have.1)
+
+  -- an actor that comes before those numbered from n on is none of them
+  apart : (i n : ℕ) (ls : List ActorActs) → i < n → HaveActs n ls → AllByRecursion (λ (s : Numbered Act). i ≡ s.actor → ⊥) (map numbered ls)
+  apart i n [] less have = tt
+  apart i n (l ∷ ls) less have =
+      let e : l.id ≡ n = have.0.0 in
+      ((λ same. omega (arith, e, same, less)), apart i (n + 1) ls (omega (arith, less)) have.1)
+
+  pub all_apart : (n : ℕ) (ls : List ActorActs) → HaveActs n ls → AreDistinct (map numbered ls)
+  all_apart n [] have = tt
+  all_apart n (l ∷ ls) have =
+      (subst (λ i. AllByRecursion (λ (s : Numbered Act). i ≡ s.actor → ⊥) (map numbered ls)) (sym have.0.0) (apart n (n + 1) ls (omega arith) have.1), all_apart (n + 1) ls have.1)
+
+  -- the acts of an actor among them, and past them none
+  pub acts_of : (n k : ℕ) (ls : List ActorActs) → HaveActs n ls → k < length ls → run_of (map numbered ls) (n + k) ≡ map (restamped act_of) (runs (n + k))
+  acts_of n k [] have less = absurd (omega (arith, less))
+  acts_of n zero (l ∷ ls) have less =
+      let none : n + 0 ≡ n = omega arith in
+      ap (λ b. if b then map of_pair l.acts.items else run_of (map numbered ls) (n + 0)) (eq-eqb l.id (n + 0) (have.0.0 ∙ sym none))
+      ∙ (ap (map of_pair) have.0.1 ∙ (map-map of_pair logged (runs n) ∙ ap (λ i. map (restamped act_of) (runs i)) (sym none)))
+  acts_of n (suc k) (l ∷ ls) have less =
+      let e : l.id ≡ n = have.0.0 in
+      let same : n + 1 + k ≡ n + suc k = omega arith in
+      let other : (l.id == n + suc k) ≡ false = grind (arith, nat_tests) in
+      ap (λ b. if b then map of_pair l.acts.items else run_of (map numbered ls) (n + suc k)) other
+      ∙ (ap (run_of (map numbered ls)) (sym same) ∙ (acts_of (n + 1) k ls have.1 (omega (arith, less)) ∙ ap (λ i. map (restamped act_of) (runs i)) same))
+
+  pub none_past : (n i : ℕ) (ls : List ActorActs) → HaveActs n ls → n + length ls ≤ i → run_of (map numbered ls) i ≡ []
+  none_past n i [] have past = refl
+  none_past n i (l ∷ ls) have past =
+      let e : l.id ≡ n = have.0.0 in
+      let less : n < i = omega (arith, past) in
+      let other : (l.id == i) ≡ false = grind (arith, nat_tests) in
+      ap (λ b. if b then map of_pair l.acts.items else run_of (map numbered ls) i) other ∙ none_past (n + 1) i ls have.1 (omega (arith, past))

@@ -53,34 +53,36 @@ none_past [] w h = refl
 none_past (x ∷ xs) zero h = absurd (omega arith)
 none_past (x ∷ xs) (suc w) h = none_past xs w (omega arith)
 
-module _ (p : Plan) (acc : IsAccepted p) (refuses : ℕ → ℕ → Type 0) (turns seed : ℕ) (js : List Job) (rs : List ActorRun) (begins : AreFirst p (actors p) (map actor_in js)) (are : AreNumbered 0 (map who js))
-    (ran : AllZip (Ran refuses turns seed) js rs) (wired : AreWired p (length p.wires) js) (e : AllEnds)
+module _ {L : Type 0} (holds : L → ℕ → List (ℕ × Act) → Type 0) (p : Plan) (acc : IsAccepted p) (refuses : ℕ → ℕ → Type 0) (turns seed : ℕ) (js : List Job) (rs : List (ActorRun L)) (begins : AreFirst p (actors p) (map actor_in js)) (are : AreNumbered 0 (map who js))
+    (ran : AllZip (Ran holds refuses turns seed) js rs) (wired : AreWired p (length p.wires) js) (e : AllEnds)
     (outs : map (λ v. v.items) e.outs.items ≡ map outs_left rs) (ins : map (λ v. v.items) e.ins.items ≡ map ins_left rs)
     (lines : List (Vec Token)) (count : length lines ≡ 2 * length p.wires) (left : OnWays (LeftOn (length p.nodes) e lines) p.wires (length p.wires)) (merged : List (Made Act))
-    (made : IsMerge (λ k. map (restamped act_of) (steps_of p refuses turns seed js rs begins are ran k)) merged) where
+    (made : IsMerge (λ k. map (restamped act_of) (steps_of holds p refuses turns seed js rs begins are ran k)) merged) where
   pub is_run : (s : State) (stops : List Stop) (close : Close) → stops ≡ map stop_in rs → IsNetworkOf p s → s.actors ≡ map actor_left rs → s.ways ≡ map (λ line. tokens line.items) lines
-      → close ≡ Done ↔ AllHaveEnded p s → (close ≢ Done → ClosesBy (length rs) (stop_at rs) close) → IsThreadRun p refuses turns seed (map made_event merged) s stops close
+      → close ≡ Done ↔ AllHaveEnded p s → (close ≢ Done → ClosesBy (length rs) (stop_at rs) close) → (r : IsThreadRun p refuses turns seed (map made_event merged) s stops close) × ((k : ℕ) → r.runs k ≡ steps_of holds p refuses turns seed js rs begins are ran k)
   is_run s stops close are_stops is actors_are ways_are done closes =
-      let run = steps_of p refuses turns seed js rs begins are ran in
-      let last = last_of p refuses turns seed js rs begins are ran in
-      let each = each_run p refuses turns seed js rs begins are ran wired in
-      let none = no_run p refuses turns seed js rs begins are ran in
-      let ends : (k : ℕ) → last k ≡ (shown s).state k = λ k. ends_there p refuses turns seed js rs begins are ran k ∙ ap (λ xs. shown_or (IsSwitch new_switch) actor_of (slice_get xs k)) (sym actors_are) in
+      let run = steps_of holds p refuses turns seed js rs begins are ran in
+      let last = last_of holds p refuses turns seed js rs begins are ran in
+      let each = each_run holds p refuses turns seed js rs begins are ran wired in
+      let none = no_run holds p refuses turns seed js rs begins are ran in
+      let ends : (k : ℕ) → last k ≡ (shown s).state k = λ k. ends_there holds p refuses turns seed js rs begins are ran k ∙ ap (λ xs. shown_or (IsSwitch new_switch) actor_of (slice_get xs k)) (sym actors_are) in
       let on : (w : ℕ) → (shown s).way w ≡ tokens (tokens_at lines w) = λ w. ap (λ xs. shown_or [] (λ ts. ts) (slice_get xs w)) ways_are ∙ shown_at lines w in
       let bare : (w : ℕ) → ways (network_of p) ≤ w → (shown s).way w ≡ [] = λ w past. let n = length-map p.wires wire_of in on w ∙ none_past lines w (omega (arith, past, count, n)) in
-      let order = takes_in_order p refuses turns seed js rs begins are ran e outs ins wired lines (shown s).way on left in
-      let leads = leads_there p acc refuses turns seed run (stop_at rs) last each none (idle_there p refuses turns seed js rs begins are ran) (shown s).way order bare merged made (map made_event merged) refl s is ends (λ w. refl) in
-      record {
-        runs = run;
-        count = ap length are_stops ∙ (length-map rs stop_in ∙ runs_count p refuses turns seed js rs begins are ran);
-        each = λ k less. subst (λ ss. IsRunOf p refuses turns seed k (run k) (stop_among ss k) ((shown s).state k)) (sym are_stops) (subst (IsRunOf p refuses turns seed k (run k) (stop_at rs k)) (ends k) (each k less));
-        none = none;
-        order = order;
-        merged = merged;
-        merge = made;
-        steps = refl;
-        replays = leads;
-        done = done;
-        full = λ k less at_clock. greatest_there p refuses turns seed js rs begins are ran e outs ins wired lines left k less (ap (λ ss. stop_among ss k) (sym are_stops) ∙ at_clock);
-        closes = λ not. subst (λ ss. ClosesBy (actors p) (stop_among ss) close) (sym are_stops) (subst (λ n. ClosesBy n (stop_at rs) close) (runs_count p refuses turns seed js rs begins are ran) (closes not));
-      }
+      let order = takes_in_order holds p refuses turns seed js rs begins are ran e outs ins wired lines (shown s).way on left in
+      let leads = leads_there p acc refuses turns seed run (stop_at rs) last each none (idle_there holds p refuses turns seed js rs begins are ran) (shown s).way order bare merged made (map made_event merged) refl s is ends (λ w. refl) in (
+        record {
+          runs = run;
+          count = ap length are_stops ∙ (length-map rs stop_in ∙ runs_count holds p refuses turns seed js rs begins are ran);
+          each = λ k less. subst (λ ss. IsRunOf p refuses turns seed k (run k) (stop_among ss k) ((shown s).state k)) (sym are_stops) (subst (IsRunOf p refuses turns seed k (run k) (stop_at rs k)) (ends k) (each k less));
+          none = none;
+          order = order;
+          merged = merged;
+          merge = made;
+          steps = refl;
+          replays = leads;
+          done = done;
+          full = λ k less at_clock. greatest_there holds p refuses turns seed js rs begins are ran e outs ins wired lines left k less (ap (λ ss. stop_among ss k) (sym are_stops) ∙ at_clock);
+          closes = λ not. subst (λ ss. ClosesBy (actors p) (stop_among ss) close) (sym are_stops) (subst (λ n. ClosesBy n (stop_at rs) close) (runs_count holds p refuses turns seed js rs begins are ran) (closes not));
+        },
+        λ k. refl,
+      )

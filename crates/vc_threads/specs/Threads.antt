@@ -1,5 +1,5 @@
 -- The jobs of all actors, and what a run in threads reports.
-use Rattle.std.specs.Prelude.{◌≡◌, ◌≢◌, ◌↔◌, ℕ, ◌<◌, ◌≤◌, List, [], ◌++◌, length, map}
+use Rattle.std.specs.Prelude.{◌≡◌, ◌≢◌, ◌↔◌, ℕ, ◌<◌, ◌≤◌, List, [], ◌++◌, length, map, slice_get, Some}
 use Rattle.std.specs.List.{AllByRecursion, Contains}
 use Rattle.rand_pcg.specs.Lcg.{Lcg}
 use Rattle.vc_accepted.specs.NetworkOf.{network_of}
@@ -30,8 +30,9 @@ use Rattle.vc_threads.specs.MergedRuns.{made_event}
 use Rattle.vc_threads.specs.Order.{OnWays}
 use Rattle.vc_threads.specs.Rings.{IsOnWire}
 use Rattle.vc_threads.specs.Runs.{StepsByLink, Used, Draws, generator, words_of}
-use Rattle.vc_threads.specs.Works.{IsGreatest}
+use Rattle.vc_threads.specs.Works.{IsGreatest, logged}
 use Rattle.vc_threads.specs.declared.report.Ending.{Ending}
+use Rattle.vc_threads.specs.declared.report.Logged.{Logged}
 use Rattle.vc_threads.specs.declared.report.Report.{Report}
 use Rattle.vc_threads.specs.declared.run.Stop.{Stop}
 use Rattle.vc_threads.specs.declared.run.Stop.TheVariants.{Turns, Gate, Clock}
@@ -92,6 +93,13 @@ pub record IsThreadRun (p : Plan) (refuses : ℕ → ℕ → Type 0) (turns seed
 -- what is reported is such a run
 abbrev pub Reports : Plan → (ℕ → ℕ → Type 0) → ℕ → ℕ → Report → Type 0
 Reports p refuses turns seed r = IsThreadRun p refuses turns seed r.steps.items (state_of r.state) r.stops.items r.close
+
+-- some events are such a run, and there is a log for each actor, which holds what its worker logged
+pub record EndsRunIn {L : Type 0} (holds : L → ℕ → List (ℕ × Act) → Type 0) (p : Plan) (refuses : ℕ → ℕ → Type 0) (turns seed : ℕ) (r : Logged L) : Type 0 where
+  pub events : List Event
+  pub run : IsThreadRun p refuses turns seed events (state_of r.ending.state) r.ending.stops.items r.ending.close
+  pub count : length r.logs.items ≡ actors p
+  pub logs : (k : ℕ) (log : L) → slice_get r.logs.items k ≡ Some log → holds log k (map logged (run.runs k))
 
 -- what is told without the events is how such a run ended
 abbrev pub EndsRun : Plan → (ℕ → ℕ → Type 0) → ℕ → ℕ → Ending → Type 0

@@ -1,5 +1,5 @@
 -- What a worker does.
-use Rattle.std.specs.Prelude.{◌≡◌, ℕ, ◌+◌, ◌++◌, ◌^◌, ◌<◌, ◌≤◌, ◌⊎◌, Bool, true, false, List, [], ◌∷◌, length, map}
+use Rattle.std.specs.Prelude.{◌≡◌, ℕ, ◌+◌, ◌++◌, ◌^◌, ◌<◌, ◌≤◌, ◌⊎◌, List, [], ◌∷◌, length, map}
 use Rattle.std.specs.List.{AllZip, AllByRecursion, Contains}
 use mathlib.Core.List.{IsPrefix}
 use Rattle.std.specs.declared.alloc.Global.{Global}
@@ -34,11 +34,6 @@ In = ℕ × Consumer Stamped Global LinkRule
 -- what is logged of a step
 abbrev pub logged : Turn Act Token → ℕ × Act
 logged t = (t.at, act_of t.it)
-
--- the acts, where they are kept, or none
-abbrev pub kept : Bool → List (ℕ × Act) → List (ℕ × Act)
-kept true acts = acts
-kept false acts = []
 
 -- a put goes out by one of the first links, and a take comes in by one of the others
 abbrev pub GoesOver : List ℕ → List ℕ → Label Act (local.Stamped Token) → Type 0
@@ -86,19 +81,19 @@ TakeFromLeast x ins [] ins' = AllZip InLooked ins ins'
 TakeFromLeast x ins (t ∷ ts) ins' =
     (seen : List In) × (after : List In) × AllZip InLooked ins seen × IsFromLeast x seen t.it × AllZip (Passed t) seen after × TakeFromLeast x after ts ins'
 
--- What a worker gives back: some steps are a run of actor k by itself from its first state to its last. They are the acts, where these
--- are kept. It made at most n turns, and in each the actor made a step, or had no step of its own.
+-- What a worker gives back: some steps are a run of actor k by itself from its first state to its last, and the log holds them as its
+-- actor's acts. It made at most n turns, and in each the actor made a step, or had no step of its own.
 -- What the ring ends sent and received is what the steps put and took, all over the links of these ends, and the words of the takes are
 -- those of the generator, in order. Each take is from the least link that has an item, as far as the worker has looked by then.
 -- A worker that ended by its turns made n of them. One that ended by its gate may have been refused its next turn: `refuses` says which
 -- turns the gate may refuse an actor. One that ended by its clock had a stamp that was the greatest, its own or that of an item that waited.
-pub record HasRun (refuses : ℕ → ℕ → Type 0) (plan : Plan) (k n id seed : ℕ) (actor : Acting) (ends : Ends) (keeps : Bool) (r : ActorRun) : Type 0 where
+pub record HasRun {L : Type 0} (holds : L → ℕ → List (ℕ × Act) → Type 0) (refuses : ℕ → ℕ → Type 0) (plan : Plan) (k n id seed : ℕ) (actor : Acting) (ends : Ends) (r : ActorRun L) : Type 0 where
   pub steps : List (Turn Act Token)
   pub made : ℕ
   pub few : length steps ≤ made
   pub within : made ≤ n
   pub run : LocalRun (StepsByLink plan) k 0 actor steps r.actor
-  pub acts : r.acts.items ≡ kept keeps (map logged steps)
+  pub acts : holds r.log id (map logged steps)
   pub outs : AllZip (Sends steps) ends.outs.items r.ends.outs.items
   pub ins : AllZip (Receives steps) ends.ins.items r.ends.ins.items
   pub links : GoOver ends.outs.items ends.ins.items steps

@@ -6,7 +6,7 @@ ghost use Rattle.vc_actor.specs.Turns.{actors as actors_in};
 ghost use Rattle.vc_plan.specs.Accepted.{IsAccepted};
 ghost use Rattle.vc_threads.specs.Private.Jobs.{IsFit};
 ghost use Rattle.vc_threads.specs.Private.Rings.{AddsRing, AreBare, AreWired, CanAddRing, outs_in, ins_in};
-ghost use Rattle.vc_threads.specs.Private.Threads.{AllKeep, AreNumbered, actor_in, who};
+ghost use Rattle.vc_threads.specs.Private.Threads.{AreNumbered, actor_in, who};
 ghost use Rattle.vc_threads.specs.Private.Works.{IsOfSomePlan};
 
 use crate::link::{Ends, In, LinkRule, Out, PLACES};
@@ -18,9 +18,9 @@ use vc_packets::Memory;
 use vc_plan::{Accepted, Plan, Port};
 
 // The job of an actor that has no links yet.
-fn job_of(alloc: Global, id: u8, actor: Actor, keeps: bool) -> Job
+fn job_of(alloc: Global, id: u8, actor: Actor) -> Job
     requires { IsOfSomePlan actor }
-    ensures who { who result ≡ record { id = id; actor = actor; keeps = keeps } }
+    ensures who { who result ≡ record { id = id; actor = actor } }
     ensures fit { IsFit result }
     ensures bare { (outs_in result ≡ []) × (ins_in result ≡ []) }
 {
@@ -30,24 +30,22 @@ fn job_of(alloc: Global, id: u8, actor: Actor, keeps: bool) -> Job
         id,
         actor,
         ends: Ends { outs, ins },
-        keeps,
     }
 }
 
 // A job for each actor, without links, numbered from 0 on.
-fn jobs_of(alloc: Global, actors: Vec<Actor>, keeps: bool) -> Result<Vec<Job>, Memory>
+fn jobs_of(alloc: Global, actors: Vec<Actor>) -> Result<Vec<Job>, Memory>
     requires few { length actors.items ≤ 64 }
     requires actors { AllByRecursion IsOfSomePlan actors.items }
     ensures fit { IfOk result (λ jobs. All IsFit jobs.items) }
     ensures numbered { IfOk result (λ jobs. AreNumbered 0 (map who jobs.items)) }
     ensures actors { IfOk result (λ jobs. map actor_in jobs.items ≡ actors.items) }
-    ensures keep { IfOk result (λ jobs. AllKeep keeps (map who jobs.items)) }
     ensures bare { IfOk result (λ jobs. AreBare jobs.items) }
 {
     let mut jobs = Vec::new(alloc);
     for actor in actors {
         let id = jobs.len() as u8;
-        jobs.push(job_of(alloc, id, actor, keeps))?;
+        jobs.push(job_of(alloc, id, actor))?;
     }
     Ok(jobs)
 }
@@ -125,17 +123,16 @@ fn add_rings(alloc: Global, jobs: &mut Vec<Job>, plan: &Plan) -> Result<(), Memo
 
 /// A job for each actor of an accepted plan, which begins, with the ends of its rings: one for each way of the plan, from the actor at
 /// its near end to the one at its far end.
-pub(crate) fn make_jobs(alloc: Global, accepted: &Accepted, keeps: bool) -> Result<Vec<Job>, Memory>
+pub(crate) fn make_jobs(alloc: Global, accepted: &Accepted) -> Result<Vec<Job>, Memory>
     ensures fit { IfOk result (λ jobs. All IsFit jobs.items) }
     ensures numbered { IfOk result (λ jobs. AreNumbered 0 (map who jobs.items)) }
     ensures begins { IfOk result
         (λ jobs. AreFirst accepted.now (actors_in accepted.now) (map actor_in jobs.items)) }
     ensures wired { IfOk result
         (λ jobs. AreWired accepted.now (length accepted.now.wires) jobs.items) }
-    ensures keep { IfOk result (λ jobs. AllKeep keeps (map who jobs.items)) }
 {
     let plan = accepted.plan();
-    let mut jobs = jobs_of(alloc, actors(alloc, accepted)?, keeps)?;
+    let mut jobs = jobs_of(alloc, actors(alloc, accepted)?)?;
     add_rings(alloc, &mut jobs, plan)?;
     Ok(jobs)
 }

@@ -9,6 +9,7 @@
 //! [`run_until_ended`] is the same with a gate that closes once every process has ended.
 #![tactic(auto)]
 
+mod act_log;
 mod gate;
 mod jobs;
 mod link;
@@ -26,14 +27,15 @@ mod until_ended;
 mod work;
 mod worker_state;
 
+pub use act_log::{ActLog, ActorActs, NoActs};
 pub use gate::{EndGate, Gate};
 pub use link::{Ends, In, LinkRule, Out, Stamped};
 pub use merged_runs::merge;
 pub use meter::Meter;
-pub use report::{Ending, Report};
+pub use report::{Ending, Logged, Report};
 pub use run::{ActorRun, Stop};
 pub use spawn::ThreadFault;
 pub use stamp::next_stamp;
-pub use threads::{run_threads, run_threads_unlogged};
-pub use until_ended::{run_until_ended, run_until_ended_unlogged};
+pub use threads::{run_threads, run_threads_into, run_threads_unlogged};
+pub use until_ended::{run_until_ended, run_until_ended_into, run_until_ended_unlogged};
 pub use work::worker;

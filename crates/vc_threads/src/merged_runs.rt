@@ -6,7 +6,7 @@ ghost use Rattle.vc_threads.specs.MergedRuns.{numbered, made_event};
 ghost use Rattle.vc_threads.specs.Private.MergedRuns.{front_of, id_at, FindsFirst, FindsWith, HavePassed, IdsRise};
 ghost use Rattle.vc_actor.specs.declared.act.Act.{Act as SpeltAct};
 
-use crate::run::ActorRun;
+use crate::act_log::ActorActs;
 use std::alloc::{AllocError, Global};
 use vc_core::Event;
 use vc_packets::Memory;
@@ -19,7 +19,7 @@ pub(crate) struct Front {
 }
 
 // A run that has come to a place.
-fn front_at(run: &ActorRun, place: usize) -> Front
+fn front_at(run: &ActorActs, place: usize) -> Front
     ensures { result ≡ front_of run.now place }
 {
     let at = match run.acts.get(place) {
@@ -30,7 +30,7 @@ fn front_at(run: &ActorRun, place: usize) -> Front
 }
 
 // The runs, each at its first act.
-fn first_fronts(alloc: Global, runs: &[ActorRun]) -> Result<Vec<Front>, AllocError>
+fn first_fronts(alloc: Global, runs: &[ActorActs]) -> Result<Vec<Front>, AllocError>
     ensures { IfOk result (λ v. v.items ≡ map (λ r. front_of r 0) runs.now) }
 {
     let mut fronts = Vec::new(alloc);
@@ -41,7 +41,7 @@ fn first_fronts(alloc: Global, runs: &[ActorRun]) -> Result<Vec<Front>, AllocErr
 }
 
 // Whether run k's next act, with this stamp, comes before the first that was found.
-fn comes_before(runs: &[ActorRun], k: usize, at: u64, first: Option<(u64, usize)>) -> bool
+fn comes_before(runs: &[ActorActs], k: usize, at: u64, first: Option<(u64, usize)>) -> bool
     requires within { k < length runs.now }
     requires first { IfSome first (λ f. f.1 < length runs.now) }
     ensures { MatchOption first (IsTrue result)
@@ -55,7 +55,7 @@ fn comes_before(runs: &[ActorRun], k: usize, at: u64, first: Option<(u64, usize)
 }
 
 // The run whose next act is the first of all, by stamp, then actor.
-fn first_of(runs: &[ActorRun], fronts: &[Front]) -> Option<usize>
+fn first_of(runs: &[ActorActs], fronts: &[Front]) -> Option<usize>
     requires { length fronts.now ≡ length runs.now }
     ensures within { IfSome result (λ k. k < length runs.now) }
     ensures first { FindsFirst runs.now fronts.now result }
@@ -75,7 +75,7 @@ fn first_of(runs: &[ActorRun], fronts: &[Front]) -> Option<usize>
 }
 
 // The actor of a run.
-fn id_of(runs: &[ActorRun], k: usize) -> u8
+fn id_of(runs: &[ActorActs], k: usize) -> u8
     requires { k < length runs.now }
     ensures { result ≡ id_at runs.now k }
 {
@@ -83,7 +83,7 @@ fn id_of(runs: &[ActorRun], k: usize) -> u8
 }
 
 // Whether each run's actor has a greater number than those before it.
-fn are_in_order(runs: &[ActorRun]) -> bool
+fn are_in_order(runs: &[ActorActs]) -> bool
     ensures { IsTrue result ↔ IdsRise runs.now }
 {
     for k in 1..runs.len() {
@@ -119,7 +119,7 @@ fn first_with(fronts: &[Front], from: usize, stamp: u64) -> Option<usize>
 // The run whose next act is the first of all, by stamp, then actor. Of runs in their actors' order it is known that no next act has a
 // lesser stamp than this one, and that none of the runs before `from` has this one.
 fn next_of(
-    runs: &[ActorRun],
+    runs: &[ActorActs],
     fronts: &[Front],
     in_order: bool,
     from: usize,
@@ -141,7 +141,7 @@ fn next_of(
 
 /// All acts of the runs as events, by stamp, then actor. The runs are of different actors, and the stamps of each rise. The only error
 /// is want of memory.
-pub fn merge(alloc: Global, runs: &[ActorRun]) -> Result<Vec<Event>, Memory>
+pub fn merge(alloc: Global, runs: &[ActorActs]) -> Result<Vec<Event>, Memory>
     requires distinct { AreDistinct (map numbered runs.now) }
     requires rising { AllByRecursion RunRises (map numbered runs.now) }
     ensures { IfOk result

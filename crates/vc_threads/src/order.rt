@@ -3,7 +3,7 @@ ghost use Rattle.std.specs.Prelude.{◌≡◌, ◌*◌, ◌<◌, ◌≤◌, IfOk
 ghost use Rattle.std.specs.List.{AllZip, HoldsAt};
 ghost use Rattle.rtrb.specs.Ring.{known_items, IsPair, SameConsumer};
 ghost use Rattle.vc_plan.specs.Accepted.{IsAccepted};
-ghost use Rattle.vc_threads.specs.Private.Order.{actor_left, outs_left, ins_left, HasEnd, IsLeft, AtLinks, Meet, TakenBy, IsPort, EndsTaken, MeetAt, LeftAt, LeftOn, OnWires};
+ghost use Rattle.vc_threads.specs.Private.Order.{actor_left, outs_left, ins_left, log_left, HasEnd, IsLeft, AtLinks, Meet, TakenBy, IsPort, EndsTaken, MeetAt, LeftAt, LeftOn, OnWires};
 ghost use Rattle.vc_threads.specs.Order.{OnWays};
 ghost use Rattle.vc_threads.specs.Stamps.{item_of};
 ghost use Rattle.vc_threads.specs.Wires.{OutLooked, SameIn};
@@ -23,31 +23,46 @@ pub(crate) struct AllEnds {
     ins: Vec<Vec<(u8, In)>>,
 }
 
-// The actor and the ends that a run leaves.
-fn parts_of(run: ActorRun) -> (Actor, Ends)
-    ensures { result ≡ (run.actor, run.ends) }
-{
-    (run.actor, run.ends)
+/// What the runs of all actors leave, in their order.
+#[derive(Drop)]
+pub(crate) struct AllParts<L> {
+    pub(crate) actors: Vec<Actor>,
+    pub(crate) ends: AllEnds,
+    pub(crate) logs: Vec<L>,
 }
 
-/// The actors and the ends that the runs leave.
-pub(crate) fn all_parts(alloc: Global, runs: Vec<ActorRun>) -> Result<(Vec<Actor>, AllEnds), Memory>
-    ensures actors { IfOk result (λ parts. parts.0.items ≡ map actor_left runs.items) }
+// The actor, the ends and the log that a run leaves.
+fn parts_of<L: Drop>(run: ActorRun<L>) -> (Actor, Ends, L)
+    ensures { result ≡ (run.actor, run.ends, run.log) }
+{
+    (run.actor, run.ends, run.log)
+}
+
+/// The actors, the ends and the logs that the runs leave.
+pub(crate) fn all_parts<L: Drop>(
+    alloc: Global,
+    runs: Vec<ActorRun<L>>,
+) -> Result<AllParts<L>, Memory>
+    ensures actors { IfOk result (λ parts. parts.actors.items ≡ map actor_left runs.items) }
     ensures outs { IfOk result
-        (λ parts. map (λ v. v.items) parts.1.outs.items ≡ map outs_left runs.items) }
+        (λ parts. map (λ v. v.items) parts.ends.outs.items ≡ map outs_left runs.items) }
     ensures ins { IfOk result
-        (λ parts. map (λ v. v.items) parts.1.ins.items ≡ map ins_left runs.items) }
+        (λ parts. map (λ v. v.items) parts.ends.ins.items ≡ map ins_left runs.items) }
+    ensures logs { IfOk result (λ parts. parts.logs.items ≡ map log_left runs.items) }
 {
     let mut actors = Vec::new(alloc);
     let mut outs = Vec::new(alloc);
     let mut ins = Vec::new(alloc);
+    let mut logs = Vec::new(alloc);
     for run in runs {
-        let (actor, ends) = parts_of(run);
+        let (actor, ends, log) = parts_of(run);
         actors.push(actor)?;
         outs.push(ends.outs)?;
         ins.push(ends.ins)?;
+        logs.push(log)?;
     }
-    Ok((actors, AllEnds { outs, ins }))
+    let ends = AllEnds { outs, ins };
+    Ok(AllParts { actors, ends, logs })
 }
 
 // The place of the end that goes out by a link.

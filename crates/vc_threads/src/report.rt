@@ -36,6 +36,15 @@ pub struct Ending {
     pub close: Close,
 }
 
+/// How a run in threads ended, and the log of each actor.
+#[derive(Drop)]
+pub struct Logged<L> {
+    /// How the run ended.
+    pub ending: Ending,
+    /// What became of the acts of each actor, in the actors' order.
+    pub logs: Vec<L>,
+}
+
 impl Report {
     ghost use Rattle.std.specs.Prelude.{◌≡◌};
 
@@ -61,8 +70,34 @@ impl Report {
     }
 }
 
+impl Ending {
+    ghost use Rattle.std.specs.Prelude.{◌≡◌};
+
+    /// The report of the run whose events these are.
+    pub(crate) fn into_report(self, steps: Vec<Event>) -> Report
+        ensures { result ≡ record {
+          steps = steps;
+          state = self.state;
+          stops = self.stops;
+          close = self.close;
+        } }
+    {
+        let Ending {
+            state,
+            stops,
+            close,
+        } = self;
+        Report {
+            steps,
+            state,
+            stops,
+            close,
+        }
+    }
+}
+
 /// Why each worker ended, in the order of the runs.
-pub(crate) fn stops_of(alloc: Global, runs: &[ActorRun]) -> Result<Vec<Stop>, Memory>
+pub(crate) fn stops_of<L>(alloc: Global, runs: &[ActorRun<L>]) -> Result<Vec<Stop>, Memory>
     ensures { IfOk result (λ stops. stops.items ≡ map stop_in runs.now) }
 {
     let mut stops = Vec::new(alloc);
@@ -73,7 +108,7 @@ pub(crate) fn stops_of(alloc: Global, runs: &[ActorRun]) -> Result<Vec<Stop>, Me
 }
 
 // The first worker that ended so.
-fn first_stop(runs: &[ActorRun], stop: Stop) -> Option<usize>
+fn first_stop<L>(runs: &[ActorRun<L>], stop: Stop) -> Option<usize>
     ensures none { IsNone result → NoneStopped (length runs.now) (stop_at runs.now) stop }
     ensures first { IfSome result
         (λ k.
@@ -91,7 +126,7 @@ fn first_stop(runs: &[ActorRun], stop: Stop) -> Option<usize>
 
 /// How a run ended in which not every process has: the first that fits of an actor that found no memory, a clock at its end, a gate that
 /// closed, and turns that were used. The runs are in the actors' order.
-pub(crate) fn stopped(runs: &[ActorRun]) -> Close
+pub(crate) fn stopped<L>(runs: &[ActorRun<L>]) -> Close
     requires { AreInOrder runs.now }
     ensures { ClosesBy (length runs.now) (stop_at runs.now) result }
 {

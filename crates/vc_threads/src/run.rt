@@ -1,6 +1,6 @@
 //! What a worker gives back.
 use crate::link::Ends;
-use vc_core::{Act, Actor};
+use vc_core::Actor;
 
 /// Why a worker ended.
 #[derive(Clone, Copy, Debug, PartialEq, Eq, Drop)]
@@ -17,13 +17,13 @@ pub enum Stop {
 
 /// What a worker gives back.
 #[derive(Drop)]
-pub struct ActorRun {
+pub struct ActorRun<L> {
     /// The actor's number.
     pub id: u8,
     /// The actor, as its acts left it.
     pub actor: Actor,
-    /// The acts in order, each with its stamp.
-    pub acts: Vec<(u64, Act)>,
+    /// What became of its acts.
+    pub log: L,
     /// The actor's ends of the rings.
     pub ends: Ends,
     /// Why the worker ended.

@@ -4,6 +4,7 @@ ghost use Rattle.std.specs.List.{All, AllZip};
 ghost use Rattle.vc_threads.specs.Private.Jobs.{IsFit};
 ghost use Rattle.vc_threads.specs.Jobs.{Ran};
 
+use crate::act_log::ActLog;
 use crate::gate::Gate;
 use crate::link::Ends;
 use crate::pause::Sleep;
@@ -28,8 +29,6 @@ pub(crate) struct Job {
     pub(crate) actor: Actor,
     /// The actor's ends of the rings.
     pub(crate) ends: Ends,
-    /// Whether its acts are kept.
-    pub(crate) keeps: bool,
 }
 
 /// Why a run in threads gives no report.
@@ -75,9 +74,10 @@ struct RunOf<J, G> {
     gate: Snapshot<G>,
 }
 
-impl<J: HasJob, G: Gate> Promise<Option<ActorRun>> for RunOf<J, G> {
+impl<L: ActLog, J: HasJob, G: Gate> Promise<Option<ActorRun<L>>> for RunOf<J, G> {
     ghost kept_by = { λ p result.
-        IfSome result (Ran (G.refuses p.gate.value) p.turns p.seed (J.job p.job.value)) };
+        IfSome result
+        (Ran L.holds (G.refuses p.gate.value) p.turns p.seed (J.job p.job.value)) };
 }
 
 impl From<Memory> for ThreadFault {
@@ -92,7 +92,7 @@ impl From<Memory> for ThreadFault {
 }
 
 // One run more.
-fn add_run(runs: &mut Vec<ActorRun>, run: ActorRun) -> Result<(), Memory>
+fn add_run<L: Drop>(runs: &mut Vec<ActorRun<L>>, run: ActorRun<L>) -> Result<(), Memory>
     ensures { OnOk result (runs.new.items ≡ runs.old.items ++ run ∷ []) }
 {
     runs.push(run)?;
@@ -100,7 +100,7 @@ fn add_run(runs: &mut Vec<ActorRun>, run: ActorRun) -> Result<(), Memory>
 }
 
 // Does a job. Nothing is answered where the run was cancelled.
-fn work<G: Gate, R: Wait>(
+fn work<L: ActLog, G: Gate, R: Wait>(
     rt: &R,
     alloc: Global,
     job: Job,
@@ -108,16 +108,16 @@ fn work<G: Gate, R: Wait>(
     cancel: &AtomicBool,
     turns: u64,
     seed: u32,
-) -> Option<ActorRun>
+) -> Option<ActorRun<L>>
     requires { IsFit job }
-    ensures { IfSome result (Ran (G.refuses gate.now) turns seed job) }
+    ensures { IfSome result (Ran L.holds (G.refuses gate.now) turns seed job) }
 {
     run_job(alloc, job, gate, Some(cancel), &Sleep { rt }, turns, seed)
 }
 
 // Starts a thread for the last job, then those of the others, and joins it, whether the others started or not. Where a thread is not
 // started the run is cancelled, so that those that run end at their next turns.
-fn run_all<'s, E, J: HasJob + Send + Drop + 's, G: Gate, R: Threads + Wait + Sync>(
+fn run_all<'s, E, L: ActLog + 's, J: HasJob + Send + Drop + 's, G: Gate, R: Threads + Wait + Sync>(
     rt: &'s R,
     scope: &Scope<'s, E>,
     alloc: Global,
@@ -126,10 +126,10 @@ fn run_all<'s, E, J: HasJob + Send + Drop + 's, G: Gate, R: Threads + Wait + Syn
     cancel: &'s AtomicBool,
     turns: u64,
     seed: u32,
-) -> Result<Vec<ActorRun>, ThreadFault>
+) -> Result<Vec<ActorRun<L>>, ThreadFault>
     requires { All (λ j. IsFit (J.job j)) jobs.items }
     ensures { IfOk result
-        (λ runs. AllZip (λ j r. Ran (G.refuses gate.now) turns seed (J.job j) r)
+        (λ runs. AllZip (λ j r. Ran L.holds (G.refuses gate.now) turns seed (J.job j) r)
         jobs.items runs.items) }
 {
     let mut jobs = jobs;
@@ -144,9 +144,10 @@ fn run_all<'s, E, J: HasJob + Send + Drop + 's, G: Gate, R: Threads + Wait + Syn
     };
     let started = scope.spawn_with(
         promise,
-        move || -> Option<ActorRun>
+        move || -> Option<ActorRun<L>>
             requires { IsFit (J.job job) }
-            ensures { IfSome result (Ran (G.refuses gate.entry.now) turns seed (J.job job)) }
+            ensures { IfSome result
+                (Ran L.holds (G.refuses gate.entry.now) turns seed (J.job job)) }
         { work(rt, alloc, job.job(), gate, cancel, turns, seed) },
     );
     let Ok(child) = started else {
@@ -165,27 +166,28 @@ fn run_all<'s, E, J: HasJob + Send + Drop + 's, G: Gate, R: Threads + Wait + Syn
 
 /// Runs each job in a thread of its own, and gives the runs in the jobs' order once all threads have ended. Where a thread is not
 /// started, the others end at their next turns.
-pub(crate) fn run_jobs<G: Gate, R: Threads + Wait + Sync>(
+pub(crate) fn run_jobs<L: ActLog, G: Gate, R: Threads + Wait + Sync>(
     rt: &R,
     alloc: Global,
     jobs: Vec<Job>,
     gate: &G,
     turns: u64,
     seed: u32,
-) -> Result<Vec<ActorRun>, ThreadFault>
+) -> Result<Vec<ActorRun<L>>, ThreadFault>
     requires { All IsFit jobs.items }
     ensures { IfOk result
-        (λ runs. AllZip (Ran (G.refuses gate.now) turns seed) jobs.items runs.items) }
+        (λ runs. AllZip (Ran L.holds (G.refuses gate.now) turns seed) jobs.items runs.items) }
 {
     let cancelled = AtomicBool::new(false);
     let cancel = &cancelled;
     thread::scope(
         thread::scope_env(),
         rt,
-        move |scope| -> Result<Vec<ActorRun>, ThreadFault>
+        move |scope| -> Result<Vec<ActorRun<L>>, ThreadFault>
             requires { All IsFit jobs.items }
             ensures { IfOk result
-                (λ runs. AllZip (Ran (G.refuses gate.entry.now) turns seed) jobs.items runs.items) }
+                (λ runs.
+                AllZip (Ran L.holds (G.refuses gate.entry.now) turns seed) jobs.items runs.items) }
         { run_all(rt, scope, alloc, jobs, gate, cancel, turns, seed) },
     )
 }

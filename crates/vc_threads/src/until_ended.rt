@@ -4,14 +4,15 @@ ghost use Rattle.vc_core.specs.State.{state_of};
 ghost use Rattle.vc_core.specs.declared.close.Close.TheVariants.{Done};
 ghost use Rattle.vc_threads.specs.Close.{NoneStopped, stop_among};
 ghost use Rattle.vc_threads.specs.Gates.{once_ended};
-ghost use Rattle.vc_threads.specs.Threads.{EndsRun, Reports};
+ghost use Rattle.vc_threads.specs.Threads.{EndsRun, EndsRunIn, Reports};
 
+use crate::act_log::ActLog;
 use crate::gate::{EndGate, Gate};
 use crate::meter::Meter;
-use crate::report::{Ending, Report};
+use crate::report::{Ending, Logged, Report};
 use crate::run::Stop;
 use crate::spawn::ThreadFault;
-use crate::threads::{run_threads, run_threads_unlogged};
+use crate::threads::{run_threads, run_threads_into, run_threads_unlogged};
 use std::alloc::Global;
 use std::sync::Wait;
 use std::thread::Threads;
@@ -63,13 +64,33 @@ fn check_stops(close: Close, stops: &[Stop]) -> Result<(), ThreadFault>
     }
 }
 
-/// Does what [`run_threads`] does, by a gate that closes once every process has ended. A worker ends by it only if every process has
+/// Does what [`run_threads_into`] does, by a gate that closes once every process has ended. A worker ends by it only if every process has
 /// ended in the network that is reported, so the run never closes [`Close::GateClosed`].
 ///
 /// The meter notes every 1,024 turns how far the first worker is.
 ///
-/// The call fails for the reasons of [`run_threads`]. It looks at the report before it returns, and fails if a worker was refused a
+/// The call fails for the reasons of [`run_threads_into`]. It looks at the ending before it returns, and fails if a worker was refused a
 /// turn too early; the gate does not do so.
+pub fn run_until_ended_into<L: ActLog, R: Threads + Wait + Sync>(
+    rt: &R,
+    alloc: Global,
+    accepted: &Accepted,
+    turns: u64,
+    seed: u32,
+    meter: &Meter,
+) -> Result<Logged<L>, ThreadFault>
+    ensures { IfOk result (λ r. EndsRunIn L.holds accepted.now
+        (once_ended accepted.now (state_of r.ending.state)) turns seed r) }
+{
+    let gate = MeteredGate::new(accepted, meter);
+    let logged = run_threads_into::<L, MeteredGate<'_>, R>(
+        rt, alloc, accepted, &gate, turns, seed,
+    )?;
+    check_stops(logged.ending.close, logged.ending.stops.as_slice())?;
+    Ok(logged)
+}
+
+/// Does what [`run_until_ended_into`] does, and keeps the acts of all workers, which it makes one list.
 pub fn run_until_ended<R: Threads + Wait + Sync>(
     rt: &R,
     alloc: Global,
@@ -87,7 +108,7 @@ pub fn run_until_ended<R: Threads + Wait + Sync>(
     Ok(report)
 }
 
-/// Does the same as [`run_until_ended`], and keeps no acts: its memory does not grow with their number. There are events that
+/// Does what [`run_until_ended_into`] does, and keeps no acts: its memory does not grow with their number. There are events that
 /// [`run_until_ended`] could have reported.
 pub fn run_until_ended_unlogged<R: Threads + Wait + Sync>(
     rt: &R,

@@ -1,5 +1,5 @@
 //! A worker: one actor with its ends of the rings, turn by turn.
-ghost use Rattle.std.specs.Prelude.{◌≡◌, ◌≢◌, ℕ, ◌<◌, None, false, true, IfSome};
+ghost use Rattle.std.specs.Prelude.{◌≡◌, ◌≢◌, ℕ, ◌<◌, None, false, IfSome};
 ghost use Rattle.std.specs.List.{All};
 ghost use Rattle.vc_actor.specs.OfPlan.{IsActorOf};
 ghost use Rattle.vc_network.specs.Plan.{Plan};
@@ -8,6 +8,7 @@ ghost use Rattle.vc_threads.specs.Private.Works.{EndsFor, worker_state};
 ghost use Rattle.vc_threads.specs.Wires.{Distinct, out_links, in_links};
 ghost use Rattle.vc_threads.specs.Works.{HasRun};
 
+use crate::act_log::ActLog;
 use crate::gate::Gate;
 use crate::link::Ends;
 use crate::pause::{Pause, Yield};
@@ -30,8 +31,8 @@ fn is_cancelled(cancel: Option<&AtomicBool>) -> bool
 
 // Has the actor make turns, at most so many, as long as the gate lets it, and tells why it ended. Nothing is answered where the run was
 // cancelled.
-fn make_turns<G: Gate, P: Pause>(
-    worker: &mut WorkerState,
+fn make_turns<L: ActLog, G: Gate, P: Pause>(
+    worker: &mut WorkerState<L>,
     id: u8,
     gate: &G,
     cancel: Option<&AtomicBool>,
@@ -42,7 +43,8 @@ fn make_turns<G: Gate, P: Pause>(
     requires ins { Distinct (in_links worker.old.ins.items) }
     requires low { All (λ o. o.0 < 32) worker.old.outs.ends.items }
     ensures ends { IfSome result
-        (EndsFor (G.refuses gate.now id) turns (worker_state worker.old) (worker_state worker.new)) }
+        (EndsFor L.holds (G.refuses gate.now id) turns
+        (worker_state worker.old) (worker_state worker.new)) }
     ensures cancelled { result ≡ None → cancel.entry ≢ None }
 {
     let mut told = false;
@@ -68,7 +70,7 @@ fn make_turns<G: Gate, P: Pause>(
 }
 
 /// Does a job: runs its actor for at most so many turns, as long as the gate lets it. Nothing is answered where the run was cancelled.
-pub(crate) fn run_job<G: Gate, P: Pause>(
+pub(crate) fn run_job<L: ActLog, G: Gate, P: Pause>(
     alloc: Global,
     job: Job,
     gate: &G,
@@ -76,20 +78,15 @@ pub(crate) fn run_job<G: Gate, P: Pause>(
     pause: &P,
     turns: u64,
     seed: u32,
-) -> Option<ActorRun>
+) -> Option<ActorRun<L>>
     requires outs { Distinct (out_links job.ends.outs.items) }
     requires ins { Distinct (in_links job.ends.ins.items) }
     requires low { All (λ o. o.0 < 32) job.ends.outs.items }
-    ensures ran { IfSome result (Ran (G.refuses gate.now) turns seed job) }
+    ensures ran { IfSome result (Ran L.holds (G.refuses gate.now) turns seed job) }
     ensures cancelled { result ≡ None → cancel.entry ≢ None }
 {
-    let Job {
-        id,
-        actor,
-        ends,
-        keeps,
-    } = job;
-    let mut worker = WorkerState::new(alloc, id, actor, ends, keeps, seed);
+    let Job { id, actor, ends } = job;
+    let mut worker = WorkerState::new(alloc, id, actor, ends, seed);
     let Some(stop) = make_turns(&mut worker, id, gate, cancel, pause, turns) else {
         return None;
     };
@@ -102,7 +99,7 @@ pub(crate) fn run_job<G: Gate, P: Pause>(
 ///
 /// No link stands twice among the ends that go out or among those that come in, and each that goes out is below 32. The clock at
 /// `u64::MAX` ends the worker before the act, and so does want of memory. One that ended by the gate may have been refused its next turn.
-pub fn worker<G: Gate>(
+pub fn worker<L: ActLog, G: Gate>(
     alloc: Global,
     id: u8,
     actor: Actor,
@@ -110,21 +107,15 @@ pub fn worker<G: Gate>(
     gate: &G,
     turns: u64,
     seed: u32,
-) -> ActorRun
+) -> ActorRun<L>
     requires outs { Distinct (out_links ends.outs.items) }
     requires ins { Distinct (in_links ends.ins.items) }
     requires low { All (λ o. o.0 < 32) ends.outs.items }
     ensures id { result.id ≡ id }
     ensures run { (plan : Plan) (n : ℕ) → IsActorOf plan n actor →
-        HasRun (G.refuses gate.now) plan n turns id seed actor ends true result }
+        HasRun L.holds (G.refuses gate.now) plan n turns id seed actor ends result }
 {
-    let keeps = true;
-    let job = Job {
-        id,
-        actor,
-        ends,
-        keeps,
-    };
+    let job = Job { id, actor, ends };
     let Some(run) = run_job(alloc, job, gate, None, &Yield, turns, seed) else {
         unreachable!();
     };

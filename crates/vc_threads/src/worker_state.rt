@@ -8,6 +8,7 @@ ghost use Rattle.vc_threads.specs.Private.Works.{TakesFront};
 ghost use Rattle.vc_threads.specs.Works.{CanTake, IsGreatest, IsLate};
 ghost use Rattle.vc_threads.specs.Private.Least.{TakesLeast};
 
+use crate::act_log::ActLog;
 use crate::link::{Ends, In, Stamped};
 use crate::outs::Outs;
 use crate::run::{ActorRun, Stop};
@@ -22,12 +23,10 @@ const LINKS: u8 = 32;
 
 /// An actor at work.
 #[derive(Drop)]
-pub(crate) struct WorkerState {
+pub(crate) struct WorkerState<L> {
     pub(crate) actor: Actor,
     clock: u64,
-    // whether its acts are kept
-    keeps: bool,
-    acts: Vec<(u64, Act)>,
+    log: L,
     outs: Outs,
     ins: Vec<(u8, In)>,
     words: Lcg64Xsh32,
@@ -118,42 +117,31 @@ fn take_front(
     Ok((stamp, act))
 }
 
-impl WorkerState {
-    ghost use Rattle.std.specs.Prelude.{◌≡◌, ◌<◌, ◌++◌, [], ◌∷◌, length, Some, IfOk, IfErr};
+impl<L: ActLog> WorkerState<L> {
+    ghost use Rattle.std.specs.Prelude.{◌≡◌, ℕ, ◌<◌, ◌++◌, List, [], ◌∷◌, length, Some, IfOk, IfErr};
     ghost use Rattle.std.specs.List.{All, HoldsAt};
-    ghost use Rattle.std.specs.Vec.{vec_len, vec_capacity};
+    ghost use Rattle.vc_actor.specs.declared.act.Act.{Act as SpeltAct};
     ghost use Rattle.vc_threads.specs.Runs.{generator};
     ghost use Rattle.vc_threads.specs.Wires.{Distinct, in_links, out_links};
     ghost use Rattle.vc_threads.specs.Private.Least.{TakesLeast};
     ghost use Rattle.vc_threads.specs.Private.Works.{IsRested, SameLinks, StopsFor, TakesTurn, worker_state};
-    ghost use Rattle.vc_threads.specs.Works.{CanTake, kept};
+    ghost use Rattle.vc_threads.specs.Works.{CanTake};
 
     /// An actor that did nothing yet. Its words are those of the generator of this seed and number.
-    pub(crate) fn new(
-        alloc: Global,
-        id: u8,
-        actor: Actor,
-        ends: Ends,
-        keeps: bool,
-        seed: u32,
-    ) -> WorkerState
+    pub(crate) fn new(alloc: Global, id: u8, actor: Actor, ends: Ends, seed: u32) -> WorkerState<L>
         requires low { All (λ o. o.0 < 32) ends.outs.items }
         ensures actor { result.actor ≡ actor }
         ensures clock { result.clock ≡ 0 }
-        ensures keeps { result.keeps ≡ keeps }
-        ensures acts { result.acts.items ≡ [] }
+        ensures log { L.holds result.log id [] }
         ensures outs { result.outs.ends ≡ ends.outs }
         ensures ins { result.ins ≡ ends.ins }
         ensures words { result.words ≡ generator seed id }
     {
         let Ends { outs, ins } = ends;
-        let mut acts = Vec::new(alloc);
-        let _room = acts.reserve(1);
         WorkerState {
             actor,
             clock: 0,
-            keeps,
-            acts,
+            log: L::new(alloc, id),
             outs: Outs::new(outs),
             ins,
             words: Lcg64Xsh32::new(u64::from(seed), u64::from(id)),
@@ -162,10 +150,10 @@ impl WorkerState {
     }
 
     /// What the worker gives back.
-    pub(crate) fn into_run(self, id: u8, stop: Stop) -> ActorRun
+    pub(crate) fn into_run(self, id: u8, stop: Stop) -> ActorRun<L>
         ensures id { result.id ≡ id }
         ensures actor { result.actor ≡ self.actor }
-        ensures acts { result.acts ≡ self.acts }
+        ensures log { result.log ≡ self.log }
         ensures outs { result.ends.outs ≡ self.outs.ends }
         ensures ins { result.ends.ins ≡ self.ins }
         ensures stop { result.stop ≡ stop }
@@ -173,8 +161,7 @@ impl WorkerState {
         let WorkerState {
             actor,
             clock: _,
-            keeps: _,
-            acts,
+            log,
             outs,
             ins,
             words: _,
@@ -183,7 +170,7 @@ impl WorkerState {
         ActorRun {
             id,
             actor,
-            acts,
+            log,
             ends: Ends {
                 outs: outs.into_ends(),
                 ins,
@@ -199,22 +186,20 @@ impl WorkerState {
         self.idle
     }
 
-    // Logs an act, where acts are kept, for which there is room, and makes room for the next one. Where memory is wanting, the next turn
-    // says so.
-    fn log(&mut self, stamp: u64, act: Act)
-        requires room { vec_len self.old.acts < vec_capacity self.old.acts }
-        ensures { worker_state self.new ≡ record (worker_state self.old) {
+    // Records an act, for which the log has room.
+    fn note(&mut self, stamp: u64, act: Act)
+        requires { L.has_room self.old.log }
+        ensures log { (actor : ℕ) (acts : List (ℕ × SpeltAct)) →
+            L.holds self.old.log actor acts →
+            L.holds self.new.log actor (acts ++ (stamp, act) ∷ []) }
+        ensures others { worker_state self.new ≡ record (worker_state self.old) {
           clock = stamp;
-          log = (worker_state self.old).log ++ kept self.old.keeps ((stamp, act) ∷ []);
+          log = self.new.log;
         } }
     {
         self.clock = stamp;
         self.idle = 0;
-        if !self.keeps {
-            return;
-        }
-        self.acts.push_reserved((stamp, act));
-        let _room = self.acts.reserve(1);
+        self.log.record(stamp, act);
     }
 
     // Takes the front item of the k-th incoming link.
@@ -223,14 +208,14 @@ impl WorkerState {
         requires within { k < length self.old.ins.items }
         requires can { HoldsAt (CanTake self.old.actor) self.old.ins.items k }
         requires least { TakesLeast self.old.actor self.old.ins.items (Some k) }
-        requires room { vec_len self.old.acts < vec_capacity self.old.acts }
-        ensures turn { IfOk result (TakesTurn (worker_state self.old) (worker_state self.new)) }
-        ensures stop { IfErr result (StopsFor (worker_state self.old) (worker_state self.new)) }
+        requires room { L.has_room self.old.log }
+        ensures turn { IfOk result (TakesTurn L.holds (worker_state self.old) (worker_state self.new)) }
+        ensures stop { IfErr result (StopsFor L.holds (worker_state self.old) (worker_state self.new)) }
         ensures ends { SameLinks (worker_state self.old) (worker_state self.new) }
     {
         let word = self.words.next_word();
         let (stamp, act) = take_front(&mut self.actor, &mut self.ins[k], self.clock, word)?;
-        self.log(stamp, act);
+        self.note(stamp, act);
         Ok(None)
     }
 
@@ -238,10 +223,10 @@ impl WorkerState {
     fn make_turn(&mut self, rested: Option<u32>) -> Result<Option<u32>, Stop>
         requires links { Distinct (out_links self.old.outs.ends.items) }
         requires low { All (λ o. o.0 < 32) self.old.outs.ends.items }
-        requires room { vec_len self.old.acts < vec_capacity self.old.acts }
+        requires room { L.has_room self.old.log }
         requires rests { IsRested self.old.actor rested }
-        ensures turn { IfOk result (TakesTurn (worker_state self.old) (worker_state self.new)) }
-        ensures stop { IfErr result (StopsFor (worker_state self.old) (worker_state self.new)) }
+        ensures turn { IfOk result (TakesTurn L.holds (worker_state self.old) (worker_state self.new)) }
+        ensures stop { IfErr result (StopsFor L.holds (worker_state self.old) (worker_state self.new)) }
         ensures ends { SameLinks (worker_state self.old) (worker_state self.new) }
     {
         let Some(stamp) = next_stamp(self.clock, None) else {
@@ -258,12 +243,12 @@ impl WorkerState {
                 Ok(Some(room))
             }
             Ok(Turn::Local(act)) => {
-                self.log(stamp, act);
+                self.note(stamp, act);
                 Ok(None)
             }
             Ok(Turn::Put { link, act, item }) => {
                 self.outs.put(link, Stamped { at: stamp, item });
-                self.log(stamp, act);
+                self.note(stamp, act);
                 Ok(None)
             }
             Err(_) => Err(Stop::Memory),
@@ -277,11 +262,11 @@ impl WorkerState {
         requires ins { Distinct (in_links self.old.ins.items) }
         requires low { All (λ o. o.0 < 32) self.old.outs.ends.items }
         requires rests { IsRested self.old.actor rested }
-        ensures turn { IfOk result (TakesTurn (worker_state self.old) (worker_state self.new)) }
-        ensures stop { IfErr result (StopsFor (worker_state self.old) (worker_state self.new)) }
+        ensures turn { IfOk result (TakesTurn L.holds (worker_state self.old) (worker_state self.new)) }
+        ensures stop { IfErr result (StopsFor L.holds (worker_state self.old) (worker_state self.new)) }
         ensures ends { SameLinks (worker_state self.old) (worker_state self.new) }
     {
-        if self.acts.capacity() <= self.acts.len() {
+        if self.log.make_room().is_err() {
             return Err(Stop::Memory);
         }
         match find_in(&self.actor, self.ins.as_mut_slice()) {

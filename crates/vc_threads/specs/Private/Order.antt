@@ -16,14 +16,18 @@ use Rattle.vc_threads.specs.declared.link.Stamped.{Stamped}
 use Rattle.vc_threads.specs.declared.order.AllEnds.{AllEnds}
 use Rattle.vc_threads.specs.declared.run.ActorRun.{ActorRun}
 
-abbrev pub actor_left : ActorRun → Acting
-actor_left r = r.actor
+module _ {L : Type 0} where
+  abbrev pub actor_left : ActorRun L → Acting
+  actor_left r = r.actor
 
-abbrev pub outs_left : ActorRun → List Out
-outs_left r = r.ends.outs.items
+  abbrev pub outs_left : ActorRun L → List Out
+  outs_left r = r.ends.outs.items
 
-abbrev pub ins_left : ActorRun → List In
-ins_left r = r.ends.ins.items
+  abbrev pub ins_left : ActorRun L → List In
+  ins_left r = r.ends.ins.items
+
+  abbrev pub log_left : ActorRun L → L
+  log_left r = r.log
 
 -- the ends of actor k that go out, and those that come in
 abbrev pub outs_at : AllEnds → ℕ → List Out

@@ -1,6 +1,5 @@
 -- The jobs of all actors, and what a run in threads reports.
-use Rattle.std.specs.Prelude.{◌≡◌, ℕ, ◌+◌, Bool, List, [], ◌∷◌}
-use Rattle.std.specs.List.{AllByRecursion}
+use Rattle.std.specs.Prelude.{◌≡◌, ℕ, ◌+◌, List, [], ◌∷◌}
 use Rattle.vc_actor.specs.ActorView.{Acting}
 use Rattle.vc_threads.specs.declared.spawn.Job.{Job}
 
@@ -8,19 +7,14 @@ use Rattle.vc_threads.specs.declared.spawn.Job.{Job}
 pub record Who : Type 0 where
   pub id : ℕ
   pub actor : Acting
-  pub keeps : Bool
 
 abbrev pub who : Job → Who
-who j = record { id = j.id; actor = j.actor; keeps = j.keeps }
+who j = record { id = j.id; actor = j.actor }
 
 -- the actors' numbers go up from n
 abbrev pub AreNumbered : ℕ → List Who → Type 0
 AreNumbered n [] = Unit {0}
 AreNumbered n (w ∷ ws) = (w.id ≡ n) × AreNumbered (n + 1) ws
-
--- each worker keeps its acts, or none does
-abbrev pub AllKeep : Bool → List Who → Type 0
-AllKeep keeps = AllByRecursion (λ w. w.keeps ≡ keeps)
 
 abbrev pub actor_in : Job → Acting
 actor_in j = j.actor

@@ -1,7 +1,6 @@
 use Rattle.std.proofs.Common.{Err, subst, sym}
 use Rattle.vc_core.specs.State.{shown, state_of}
 use Rattle.vc_text.specs.RunText.{WritesRun}
-use Rattle.vc_text.specs.Streams.{Writes}
 use Rattle.vc_text.proofs.StepText.{handed_on, run_unwritten, writes_one}
 use Rattle.vc_stats.specs.declared.form.Form.TheVariants.{Json}
 use Rattle.vc_stats.specs.Private.Told.{told_text}

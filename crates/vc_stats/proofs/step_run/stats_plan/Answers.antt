@@ -3,7 +3,6 @@ use Rattle.vc_core.specs.Replay.{IsOpening}
 use Rattle.vc_core.specs.State.{shown, state_of}
 use Rattle.vc_plan.specs.declared.plan.Plan.{Plan}
 use Rattle.vc_text.specs.RunText.{RunText, WritesRun}
-use Rattle.vc_text.specs.Streams.{Writes}
 use Rattle.vc_text.proofs.StepText.{handed_on, run_unwritten, writes_one}
 use Rattle.vc_stats.specs.Counts.{AreCounts, most_events}
 use Rattle.vc_stats.specs.Private.Told.{told_text}
@@ -26,7 +25,7 @@ returns-in_err-write_told g c =
     let close = c.in_ok-network.close in
     let ran = c.in_ok-network.ensures.run in
     let events = ran.0 in
-    let small = ran.2.few in
+    let small = ran.2.so_far.few in
     let few : length events ≤ most_events = omega (arith, small) in
     let seen = ran.1 few in
     let IsText : RunText = IsStatsText c.args.form options.is_why in
@@ -50,7 +49,7 @@ returns g c =
     let close = c.in_ok-network.close in
     let ran = c.in_ok-network.ensures.run in
     let events = ran.0 in
-    let small = ran.2.few in
+    let small = ran.2.so_far.few in
     let few : length events ≤ most_events = omega (arith, small) in
     let seen = ran.1 few in
     let text = told_text c.args.form c.in_ok-tail.tail in

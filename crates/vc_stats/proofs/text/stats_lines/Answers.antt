@@ -1,6 +1,4 @@
 use Rattle.std.proofs.Common.{◌++◌, ◌∙◌, ap, append_assoc, map, sym}
-use Rattle.std.proofs.lemmas.Result.{on_ok_weaker}
-use Rattle.vc_core.specs.State.{shown, state_of}
 use Rattle.vc_stats.specs.Monitor.{figures}
 use Rattle.vc_stats.specs.Sections.{stats_text}
 use Rattle.vc_stats.specs.declared.form.Form.TheVariants.{Lines}

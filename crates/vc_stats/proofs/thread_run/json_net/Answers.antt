@@ -1,6 +1,5 @@
 use Rattle.std.proofs.Common.{Err, rules, subst, sym}
 use Rattle.vc_core.specs.State.{shown, state_of}
-use Rattle.vc_text.specs.Streams.{Writes}
 use Rattle.vc_text.specs.ThreadsText.{WritesThreads}
 use Rattle.vc_text.proofs.CheckText.{memory_any}
 use Rattle.vc_text.proofs.StepText.{handed_on, writes_one}

@@ -3,7 +3,7 @@ use Rattle.std.proofs.lemmas.List.{length-map}
 use Rattle.std.proofs.lemmas.Option.{slice_get-get_or}
 use Rattle.vc_accepted.specs.NetworkOf.{network_of}
 use Rattle.vc_core.proofs.WayTable.{few}
-use Rattle.vc_threads.specs.Private.Threads.{AllKeep, actor_in}
+use Rattle.vc_threads.specs.Private.Threads.{actor_in}
 use Rattle.vc_threads.specs.Private.Works.{IsOfSomePlan}
 use Rattle.vc_actor.specs.Begin.{AreFirst}
 use Rattle.vc_actor.specs.Turns.{actors}
@@ -32,6 +32,3 @@ pub returns-clause-begins : goal.returns-clause-begins
 returns-clause-begins c =
     let p = c.args.accepted.now in
     subst (AreFirst p (actors p)) (sym (actors_kept c.in_ok-jobs.jobs.items c.add_rings.new.jobs.items c.in_ok-add_rings.ensures.same ∙ c.in_ok-jobs.ensures.actors)) c.in_ok-actors.ensures
-
-pub returns-clause-keep : goal.returns-clause-keep
-returns-clause-keep c = subst (AllKeep c.args.keeps) (sym c.in_ok-add_rings.ensures.same) c.in_ok-jobs.ensures.keep

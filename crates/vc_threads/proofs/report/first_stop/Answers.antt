@@ -7,7 +7,7 @@ use Rattle.vc_threads.proofs.report.first_stop.Goals as goal
 
 -- src/report.rt:28:5
 pub loop-k-preserved : goal.loop-k-preserved
-loop-k-preserved c =
+loop-k-preserved g c =
     let rs = c.args.runs.now in
     let k = c.loop-k.k in
     none_more k (stop_at rs) c.args.stop c.loop-k.invariant (λ same.
@@ -15,7 +15,7 @@ loop-k-preserved c =
     (sym (stop_of rs k c.index-runs-k.result c.loop-k-test.true) ∙ same))
 
 pub returns-then-eq-clause-first : goal.returns-then-eq-clause-first
-returns-then-eq-clause-first c =
+returns-then-eq-clause-first g c =
     let rs = c.args.runs.now in
     let k = c.loop-k.k in
     let r = c.index-runs-k.result in

@@ -25,7 +25,7 @@ pub returns : goal.returns
 returns g t c =
     let n = c.args.turns in
     let s = c.args.seed in
-    let ran : g.row.G.Denot → ℕ → ℕ → g.row.J.Denot → ActorRun → Type 0 = λ gate t s j r. Ran (g.G.Gate.refuses gate) t s (g.J.HasJob.job j) r in
+    let ran : g.row.G.Denot → ℕ → ℕ → g.row.J.Denot → ActorRun g.row.L.Denot → Type 0 = λ gate t s j r. Ran g.L.ActLog.holds (g.G.Gate.refuses gate) t s (g.J.HasJob.job j) r in
     let gate = c.args.gate.now in
     let run = c.in-Some-run.run' in
     let job = c.in-Some.job in

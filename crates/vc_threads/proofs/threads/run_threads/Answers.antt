@@ -1,18 +1,27 @@
-use Rattle.std.proofs.Common.{◌≡◌, ℕ, List, Result, Ok, Err, IfOk, true, refl, subst}
-use Rattle.vc_core.specs.State.{state_of}
-use Rattle.vc_core.specs.declared.event.Event.{Event}
-use Rattle.vc_plan.specs.declared.plan.Plan.{Plan}
-use Rattle.vc_threads.specs.Threads.{IsThreadRun, Reports}
-use Rattle.vc_threads.specs.declared.spawn.ThreadFault.{ThreadFault}
-use Rattle.vc_threads.specs.declared.report.Report.{Report}
+use Rattle.std.proofs.Common.{map, sym, subst}
+use Rattle.std.specs.List.{AllByRecursion}
+use Rattle.vc_network.specs.Merge.{AreDistinct, IsMerge, RunRises, run_of}
+use Rattle.vc_threads.specs.MergedRuns.{numbered}
+use Rattle.vc_threads.specs.Threads.{Reports}
+use Rattle.vc_threads.proofs.Merged.{logs_apart, logs_rise, reports}
 use Rattle.vc_threads.proofs.threads.run_threads.Goals as goal
 
--- the events are those of the report
-reported : (p : Plan) (refuses : ℕ → ℕ → Type 0) (turns seed : ℕ) (result : Result Report ThreadFault) →
-    IfOk result (λ r. (events : List Event) × (true ≡ true → events ≡ r.steps.items) × IsThreadRun p refuses turns seed events (state_of r.state) r.stops.items r.close) →
-    IfOk result (Reports p refuses turns seed)
-reported p refuses turns seed (Ok r) (events, are, run) = subst (λ es. IsThreadRun p refuses turns seed es (state_of r.state) r.stops.items r.close) (are refl) run
-reported p refuses turns seed (Err why) none = tt
+pub merge-requires-clause-distinct : goal.merge-requires-clause-distinct
+merge-requires-clause-distinct g c =
+    let r = c.in_ok-logged.logged in
+    subst (λ ls. AreDistinct (map numbered ls)) (sym c.as_slice.ensures.value)
+    (logs_apart c.args.accepted.now (g.G.Gate.refuses c.args.gate.now) c.args.turns c.args.seed r c.in_ok-logged.ensures)
+
+pub merge-requires-clause-rising : goal.merge-requires-clause-rising
+merge-requires-clause-rising g c =
+    let r = c.in_ok-logged.logged in
+    subst (λ ls. AllByRecursion RunRises (map numbered ls)) (sym c.as_slice.ensures.value)
+    (logs_rise c.args.accepted.now (g.G.Gate.refuses c.args.gate.now) c.args.turns c.args.seed r c.in_ok-logged.ensures)
 
 pub returns : goal.returns
-returns g c = reported c.args.accepted.now (g.G.Gate.refuses c.args.gate.now) c.args.turns c.args.seed c.run_actors.result c.run_actors.ensures
+returns g c =
+    let r = c.in_ok-logged.logged in
+    let m = c.in_ok-steps.ensures in
+    subst (Reports c.args.accepted.now (g.G.Gate.refuses c.args.gate.now) c.args.turns c.args.seed) (sym c.into_report.ensures)
+    (reports c.args.accepted.now (g.G.Gate.refuses c.args.gate.now) c.args.turns c.args.seed r c.in_ok-logged.ensures
+    m.0 (subst (λ ls. IsMerge (run_of (map numbered ls)) m.0) c.as_slice.ensures.value m.1) c.in_ok-steps.steps.items m.2)

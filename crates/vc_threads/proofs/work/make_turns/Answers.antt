@@ -6,19 +6,19 @@ use Rattle.vc_threads.proofs.Goings.{uses_zero, uses_then, low_kept, actor_kept,
 use Rattle.vc_threads.proofs.work.make_turns.Goals as goal
 
 pub loop-turn-init : goal.loop-turn-init
-loop-turn-init g c = record { run = λ plan n of. uses_zero plan n (worker_state c.args.worker.now); ends = (refl, refl); rests = λ plan n of. tt }
+loop-turn-init g c = record { run = λ plan n of. uses_zero g.L.ActLog.holds plan n (worker_state c.args.worker.now); ends = (refl, refl); rests = λ plan n of. tt }
 
 pub turn-requires-clause-outs : goal.turn-requires-clause-outs
-turn-requires-clause-outs g c = subst Distinct (sym c.loop-turn.invariant.ends.0) c.requires.outs
+turn-requires-clause-outs g c κs within = subst Distinct (sym c.loop-turn.invariant.ends.0) c.requires.outs
 
 pub turn-requires-clause-ins : goal.turn-requires-clause-ins
-turn-requires-clause-ins g c = subst Distinct (sym c.loop-turn.invariant.ends.1) c.requires.ins
+turn-requires-clause-ins g c κs within = subst Distinct (sym c.loop-turn.invariant.ends.1) c.requires.ins
 
 pub turn-requires-clause-low : goal.turn-requires-clause-low
-turn-requires-clause-low g c = low_kept (worker_state c.args.worker.now).outs (worker_state c.loop-turn.worker).outs c.loop-turn.invariant.ends.0 c.requires.low
+turn-requires-clause-low g c κs within = low_kept (worker_state c.args.worker.now).outs (worker_state c.loop-turn.worker).outs c.loop-turn.invariant.ends.0 c.requires.low
 
 pub turn-requires-clause-rests : goal.turn-requires-clause-rests
-turn-requires-clause-rests g c = c.loop-turn.invariant.rests
+turn-requires-clause-rests g c κs within = c.loop-turn.invariant.rests
 
 pub returns-then-not-pass-clause-ends : goal.returns-then-not-pass-clause-ends
 returns-then-not-pass-clause-ends g c =
@@ -28,7 +28,7 @@ returns-then-not-pass-clause-ends g c =
       within = omega (arith, less);
       last = worker_state c.loop-turn.worker;
       uses = c.loop-turn.invariant.run;
-      stays = stays_same (worker_state c.loop-turn.worker);
+      stays = stays_same g.L.ActLog.holds (worker_state c.loop-turn.worker);
       all = λ h. let f : Gate ≡ Turns = h in cc;
       gate = λ h. (less, c.pass.ensures c.if-not-pass.true);
       full = λ h. let f : Gate ≡ Clock = h in cc;
@@ -52,8 +52,8 @@ pub loop-turn-preserved : goal.loop-turn-preserved
 loop-turn-preserved g c = record {
   run = λ plan n of.
       let p = c.loop-turn.invariant.run plan n of in
-      uses_then plan n c.loop-turn.turn 1 (worker_state c.args.worker.now) (worker_state c.loop-turn.worker) (worker_state c.turn.new.self) of p
-      (c.in-Ok.ensures.turn.uses plan n (actor_kept plan n c.loop-turn.turn (worker_state c.args.worker.now) (worker_state c.loop-turn.worker) p of));
+      uses_then g.L.ActLog.holds plan n c.loop-turn.turn 1 (worker_state c.args.worker.now) (worker_state c.loop-turn.worker) (worker_state c.turn.new.self) of p
+      (c.in-Ok.ensures.turn.uses plan n (actor_kept g.L.ActLog.holds plan n c.loop-turn.turn (worker_state c.args.worker.now) (worker_state c.loop-turn.worker) p of));
   ends = (c.in-Ok.ensures.ends.0 ∙ c.loop-turn.invariant.ends.0, c.in-Ok.ensures.ends.1 ∙ c.loop-turn.invariant.ends.1);
   rests = c.in-Ok.ensures.turn.rests;
 }
@@ -67,7 +67,7 @@ returns-clause-ends g c =
       within = omega (arith, end);
       last = worker_state c.loop-turn.worker;
       uses = c.loop-turn.invariant.run;
-      stays = stays_same (worker_state c.loop-turn.worker);
+      stays = stays_same g.L.ActLog.holds (worker_state c.loop-turn.worker);
       all = λ h. omega (arith, all, end);
       gate = λ h. let f : Turns ≡ Gate = h in cc;
       full = λ h. let f : Turns ≡ Clock = h in cc;
