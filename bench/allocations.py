@@ -3,9 +3,10 @@
 
 Usage: bench/allocations.py VCNET [NETWORK..], VCNET being the built program (crates/vcnet/out/vcnet), the networks those of
 examples/ where none is named. Each check, explanation, search for a cycle, drawing and run by step, with what its flags add, must print what it
-prints with ample memory, or that memory is short, with status 4. So must a replay of the first 1,000 events of that run. Where the line of a
-refusal finds no memory, nothing is printed, with that status. A run in threads, of which no two need be alike, must print a fault alone, or the
-traffic of a run that ended because an actor found no memory, both with status 4; or the traffic of a run to its end, or to the end of its turns.
+prints with ample memory, or that memory is short, with status 4. So must a replay of the first 1,000 events of that run. A traced
+run by step may print the lines of its first events before that, each whole. Where the line of a refusal finds no memory, nothing is printed,
+with that status. A run in threads, of which no two need be alike, must print a fault alone, or the traffic of a run that ended because an
+actor found no memory, both with status 4; or the traffic of a run to its end, or to the end of its turns.
 
 Made with rattle-kit-13f, logic dac8208d650f15bf.
 """
@@ -51,13 +52,14 @@ void _exit(int status) {
 ROOT = pathlib.Path(__file__).resolve().parent.parent
 SHORT = (b"fault memory\n", 4)
 WORDS = (
-    "check", "explain", "deadlock", "draw", "draw --after 100", "step", "step --why", "step --trace", "step --stats", "step --json",
-    "step --stats --json", "step --together", "step --schedule 7",
+    "check", "explain", "deadlock", "draw", "draw --after 100", "step", "step --why", "step --trace", "step --trace --why", "step --stats",
+    "step --json", "step --stats --json", "step --together", "step --schedule 7",
 )
 TURNS = ["--turns", "200000", "--seed", "0"]
 # The runs in threads make their allocations in no one order: so many are tried past those of a run with ample memory.
 MORE = 40
 TRAFFIC = re.compile(rb"(channel \S+ offered \d+ taken \d+ finished \d+( stopped)?\n(  \d+ .*\n)*)*end (\w+)\n")
+LINES = re.compile(rb"(event [^\n]*\n)*")
 STATUS = {b"done": 0, b"limit": 3, b"memory": 4}
 
 
@@ -67,17 +69,28 @@ def outcome(words, network, env):
     return done.stdout, done.returncode
 
 
+def is_told(got, right, words):
+    """Whether a run tells that memory is short: by that line alone, or, if it is traced, after the whole lines of its first events."""
+    text, status = got
+    if status != SHORT[1] or not text.endswith(SHORT[0]):
+        return False
+    events = text[: -len(SHORT[0])]
+    if "step" not in words or "--trace" not in words:
+        return events == b""
+    return LINES.fullmatch(events) is not None and right[0].startswith(events)
+
+
 def sweep(words, network, shim, folder):
     """Fails each allocation in turn, and says how the runs ended."""
     count_to = folder / f"count-{os.getpid()}"
     right = outcome(words, network, {"LD_PRELOAD": str(shim), "COUNT_TO": str(count_to)})
     count = int(count_to.read_text())
     # Where the line of a refusal finds no memory, nothing is printed.
-    allowed = (SHORT, (b"", 4)) if right[0].startswith(b"refused ") else (SHORT,)
+    is_refused = right[0].startswith(b"refused ")
     short = unharmed = 0
     for number in range(1, count + 1):
         got = outcome(words, network, {"LD_PRELOAD": str(shim), "FAIL_AT": str(number)})
-        if got in allowed:
+        if is_told(got, right, words) or (is_refused and got == (b"", 4)):
             short += 1
         elif got == right:
             unharmed += 1

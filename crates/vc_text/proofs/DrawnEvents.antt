@@ -1,5 +1,5 @@
 -- Events that are drawn, one after another.
-use Rattle.std.proofs.Common.{◌≡◌, ◌⊎◌, ◌+◌, ◌<◌, ◌%◌, ◌≢◌, ℕ, List, [], ◌∷◌, ◌++◌, length, length-append, get_or, slice_get, Some, refl, sym, ap, ◌∙◌, subst, inl, inr, arith}
+use Rattle.std.proofs.Common.{◌≡◌, ◌⊎◌, ◌+◌, ◌<◌, ◌≤◌, ◌%◌, ◌≢◌, ℕ, List, [], ◌∷◌, ◌++◌, length, length-append, get_or, slice_get, Some, refl, sym, ap, ◌∙◌, subst, inl, inr, arith}
 use mathlib.Core.Path.{fun_ext}
 use Rattle.std.specs.List.{range_with_len}
 use Rattle.std.proofs.lemmas.Option.{slice_get_read, slice_get_within}
@@ -23,7 +23,7 @@ use Rattle.vc_core.specs.State.{State, shown, state_of, event_of, IsNetworkOf, M
 use Rattle.vc_core.specs.declared.event.Event.{Event}
 use Rattle.vc_core.proofs.Awake.{front_happens}
 use Rattle.vc_core.proofs.ListedActs.{those_are, those_in}
-use Rattle.vc_core.proofs.ReplayRuns.{reached_next}
+use Rattle.vc_core.proofs.ReplayRuns.{reached_next, replays}
 use Rattle.vc_core.proofs.Turns.{at_rest, front_of}
 use Rattle.vc_core.proofs.WayTable.{few}
 use Rattle.vc_text.specs.Private.Draws.{DrawsAct, DrawsActor, GivesWord, HasDrawn, IsOfPlan}
@@ -31,9 +31,11 @@ use Rattle.vc_text.specs.Private.Generators.{HaveGiven}
 use Rattle.vc_text.specs.Private.Simulation.{HasRun}
 use Rattle.vc_text.specs.Schedules.{AreDrawn, IsDrawn, Picks, drawer}
 use Rattle.vc_text.specs.declared.generators.Generators.{Generators}
+use Rattle.vc_text.specs.RunText.{IsRunSoFar}
+use Rattle.vc_text.specs.declared.schedule.Schedule.TheVariants.{Random}
 use Rattle.vc_text.specs.declared.simulation.Simulation.{Simulation}
 use Rattle.vc_text.proofs.Closes.{rests_of}
-use Rattle.vc_text.proofs.GeneratorDraws.{given_still, given_take}
+use Rattle.vc_text.proofs.GeneratorDraws.{given_still, given_take, given_words}
 
 -- two acts that differ in no more than a word: takes by one link, or one act that is no take
 pub alike : (a b : Act) → without_word a ≡ without_word b → ((l : ℕ) × (v : ℕ) × (w : ℕ) × (a ≡ Take l v) × (b ≡ Take l w)) ⊎ ((a ≡ b) × TakesNone a)
@@ -80,6 +82,15 @@ draws_more p seed es e old new g next made makes words drawn has = record {
     words = words;
   };
   drawn = drawn_more p (drawer seed) (begins (network_of p) (begin_of p)) es (shown (state_of old.network)) g e (shown (state_of new.network)) next has.drawn drawn makes.happens;
+}
+
+-- where a run is told of whose events are drawn
+pub drawn_so_far : (p : Plan) (seed : ℕ) (es : List Event) (run : Simulation) (last : Lcg) (limit : ℕ) → run.made ≤ limit → HasDrawn p seed es run last → IsRunSoFar p (Random seed) limit es (shown (state_of run.network))
+drawn_so_far p seed es run last limit less has = record {
+  few = (let many = has.runs.many in omega (arith, less, many));
+  runs = (replays p es (state_of run.network) has.runs.reached).runs;
+  order = (last, has.drawn);
+  words = given_words p es run.generators has.runs.words;
 }
 
 -- none is drawn at first

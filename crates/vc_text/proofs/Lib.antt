@@ -12,5 +12,7 @@ pub mod LogEntries
 pub mod StepsInARow
 pub mod DrawnEvents
 pub mod OneRun
+pub mod RunsSoFar
 pub mod TextWrites
 pub mod DigitTexts
+pub mod Forms

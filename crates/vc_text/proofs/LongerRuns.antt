@@ -1,5 +1,5 @@
 -- A run that goes on.
-use Rattle.std.proofs.Common.{◌≡◌, ◌+◌, ◌-◌, ◌^◌, ◌<◌, ℕ, List, [], ◌∷◌, ◌++◌, append-nil, append_assoc, arith, length, length-append, refl, subst, sym, ap, ◌∙◌}
+use Rattle.std.proofs.Common.{◌≡◌, ◌+◌, ◌-◌, ◌^◌, ◌<◌, ◌≤◌, ℕ, List, [], ◌∷◌, ◌++◌, append-nil, append_assoc, arith, length, length-append, inr, refl, subst, sym, ap, ◌∙◌}
 use Rattle.std.specs.Int.{bit_at}
 use Rattle.vc_accepted.specs.Process.{Process}
 use Rattle.vc_actor.specs.StepsInARow.{RestsOn, still, on}
@@ -11,19 +11,61 @@ use Rattle.vc_core.specs.Awake.{StaysAwake}
 use Rattle.vc_core.specs.StepsInARow.{MakesSteps}
 use Rattle.vc_core.proofs.Awake.{rests_same}
 use Rattle.vc_text.specs.declared.generators.Generators.{Generators}
-use Rattle.vc_text.proofs.GeneratorDraws.{given_still}
+use Rattle.vc_text.proofs.GeneratorDraws.{given_still, given_words}
 use Rattle.vc_text.proofs.StepsInARow.{as_many, events_by, reached_on}
 use Rattle.std.proofs.lemmas.Nat.Bits.{bit_at_ones}
-use Rattle.vc_core.specs.State.{State, state_of, IsNetworkOf, MakesEvent}
+use Rattle.vc_core.specs.State.{State, shown, state_of, IsNetworkOf, MakesEvent}
 use Rattle.vc_core.specs.declared.event.Event.{Event}
-use Rattle.vc_core.proofs.ReplayRuns.{reached_next}
+use Rattle.vc_core.proofs.ReplayRuns.{reached_next, replays}
 use Rattle.vc_plan.specs.declared.plan.Plan.{Plan}
 use Rattle.vc_text.specs.Private.Generators.{HaveGiven}
 use Rattle.vc_text.specs.Private.Quiet.{AreQuiet}
 use Rattle.vc_text.specs.Private.Simulation.{HasRun, HasRunSoFar, HasTaken, LeadsOnSoFar, all_awake}
+use Rattle.vc_text.specs.RunText.{HasStopped, IsRunSoFar}
+use Rattle.vc_text.specs.declared.schedule.Schedule.{Schedule}
+use Rattle.vc_text.specs.declared.schedule.Schedule.TheVariants.{InTurn}
 use Rattle.vc_text.specs.declared.simulation.Progress.{Progress}
 use Rattle.vc_text.specs.declared.simulation.Simulation.{Simulation}
 use Rattle.vc_text.proofs.QuietActors.{none_quiet}
+
+-- where a run is told of that goes on
+pub so_far : (p : Plan) (es : List Event) (run : Simulation) (far : Progress) (limit : ℕ) → far.made ≤ limit → HasRunSoFar p es run far → IsRunSoFar p InTurn limit es (shown (state_of run.network))
+so_far p es run far limit less has = record {
+  few = (let many = has.many in omega (arith, less, many));
+  runs = (replays p es (state_of run.network) has.reached).runs;
+  order = tt;
+  words = given_words p es run.generators has.words;
+}
+
+-- a run stops at an event that could not be taken
+pub stops_there : {K : Type 0} (holds : K → Plan → List Event → State → Type 0) (left : K → Plan → List Event → Type 0) (taken : K) (p : Plan) (es : List Event) (e : Event) (old : Simulation) (far : Progress) (t : State) (after : Generators) →
+    MakesEvent p (state_of old.network) e t → HaveGiven p (es ++ e ∷ []) after → HasRunSoFar p es old far → left taken p (es ++ e ∷ []) → HasStopped holds left taken p InTurn (far.made + 1)
+stops_there holds left taken p es e old far t after makes words run told = (
+  es ++ e ∷ [],
+  t,
+  record {
+    few = (let many = run.many in let more = length-append es (e ∷ []) in omega (arith, many, more));
+    runs = (replays p (es ++ e ∷ []) t (reached_next p es e (state_of old.network) t run.reached makes)).runs;
+    order = tt;
+    words = given_words p (es ++ e ∷ []) after words;
+  },
+  inr told,
+)
+
+-- of no more events than may be
+pub stops_within : {K : Type 0} (holds : K → Plan → List Event → State → Type 0) (left : K → Plan → List Event → Type 0) (taken : K) (p : Plan) (schedule : Schedule) (m n : ℕ) → m ≤ n →
+    HasStopped holds left taken p schedule m → HasStopped holds left taken p schedule n
+stops_within holds left taken p schedule m n less (es, s, ran, told) = (
+  es,
+  s,
+  record {
+    few = (let few = ran.few in omega (arith, few, less));
+    runs = ran.runs;
+    order = ran.order;
+    words = ran.words;
+  },
+  told,
+)
 
 -- one event more
 pub one_more : {K : Type 0} (holds : K → Plan → List Event → State → Type 0) (p : Plan) (es : List Event) (e : Event) (old new : Simulation) (far far' : Progress) (taken : K) →
@@ -41,12 +83,12 @@ one_more holds p es e old new far far' taken kept made makes words quiet run = (
 )
 
 -- what is done in two parts
-pub then_on : {K : Type 0} (holds : K → Plan → List Event → State → Type 0) (a b c : Simulation) (x y z : K) (l m n : Progress) →
+pub then_on : {K : Type 0} (holds : K → K → Plan → List Event → State → Type 0) (a b c : Simulation) (x y z : K) (l m n : Progress) →
     LeadsOnSoFar holds a x l b y m → LeadsOnSoFar holds b y m c z n → LeadsOnSoFar holds a x l c z n
-then_on holds a b c x y z l m n first second = λ p es kept run. let mid = first p es kept run in second p mid.0 mid.1 mid.2
+then_on holds a b c x y z l m n first second = λ from p es kept run. let mid = first from p es kept run in second from p mid.0 mid.1 mid.2
 
-pub stays_on : {K : Type 0} (holds : K → Plan → List Event → State → Type 0) (a : Simulation) (x : K) (m : Progress) → LeadsOnSoFar holds a x m a x m
-stays_on holds a x m = λ p es kept run. (es, kept, run)
+pub stays_on : {K : Type 0} (holds : K → K → Plan → List Event → State → Type 0) (a : Simulation) (x : K) (m : Progress) → LeadsOnSoFar holds a x m a x m
+stays_on holds a x m = λ from p es kept run. (es, kept, run)
 
 -- at first all may have an event
 pub goes_on : (p : Plan) (es : List Event) (run : Simulation) → HasRun p es run → HasRunSoFar p es run (all_awake run.made)

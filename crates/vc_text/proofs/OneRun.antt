@@ -1,5 +1,5 @@
 -- A seed has one run.
-use Rattle.std.proofs.Common.{◌≡◌, ◌==◌, ◌+◌, ◌<◌, ◌%◌, ℕ, suc, List, [], ◌∷◌, ◌++◌, append_assoc, length, slice_get, take, Some, refl, sym, ap, ◌∙◌, subst, inl, inr, arith, eq-eqb, if◌then◌else◌}
+use Rattle.std.proofs.Common.{◌≡◌, ◌<◌, ◌%◌, ℕ, List, [], ◌∷◌, ◌++◌, append_assoc, length, slice_get, take, Some, refl, sym, ap, ◌∙◌, subst, inl, inr, arith, eq-eqb, if◌then◌else◌}
 use mathlib.Core.Path.{fun_ext}
 use Rattle.std.proofs.lemmas.List.Concat.{flat_map-append}
 use Rattle.std.specs.List.{range_with_len}
@@ -19,7 +19,6 @@ use Rattle.vc_accepted.proofs.AcceptedNetwork.{accepted}
 use Rattle.vc_accepted.proofs.Determinate.{one_state}
 use Rattle.vc_accepted.proofs.LawfulRuns.{AllLawful, first_lawful, happens_on}
 use Rattle.vc_actor.specs.Turns.{actors}
-use Rattle.vc_actor.specs.declared.act.Act.{Act}
 use Rattle.vc_actor.specs.declared.act.Act.TheVariants.{Take}
 use Rattle.vc_core.specs.Choices.{AreActs, HasEvent, acts_of, without_word}
 use Rattle.vc_core.specs.PossibleEvents.{NetworkState, CanHappenIn}
@@ -99,5 +98,5 @@ module _ (p : Plan) (acc : IsAccepted p) where
 
 pub one_run : SeedsHaveOneRun
 one_run p seed most limit es fs x y close end a b =
-    let acc = a.runs.accepted in
-    same_events p acc [] es fs (begins (network_of p) (begin_of p)) x y (drawer seed) a.order.0 b.order.0 (first_lawful p acc) a.order.1 b.order.1 a.words b.words
+    let acc = a.so_far.runs.accepted in
+    same_events p acc [] es fs (begins (network_of p) (begin_of p)) x y (drawer seed) a.so_far.order.0 b.so_far.order.0 (first_lawful p acc) a.so_far.order.1 b.so_far.order.1 a.so_far.words b.so_far.words

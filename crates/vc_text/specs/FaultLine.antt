@@ -1,6 +1,7 @@
 -- The line of a fault.
 use Rattle.std.specs.Prelude.{ℕ, List, [], ◌∷◌, ◌++◌, Bool, if◌then◌else◌, codes, decimal, Option, Some, None}
 use Rattle.std.specs.List.{flat_map}
+use Rattle.vc_label_text.specs.CauseText.{cause_text}
 use Rattle.vc_labels.specs.declared.fault.TableFault.{TableFault}
 use Rattle.vc_labels.specs.declared.fault.TableFault.TheVariants.{NotRising, Gap, BadLink}
 use Rattle.vc_plan.specs.Names.{channel_name, node_name, spot_name, switch_name, vlink_name}
@@ -150,6 +151,7 @@ abbrev pub fault_text : RunFault → List ℕ
 fault_text fault.Read = codes "fault read" ++ newline
 fault_text fault.Write = []
 fault_text (fault.Text refused) = read_line refused ++ newline
+fault_text (fault.Network cause) = cause_text cause
 fault_text (fault.Plan refusal) = check_line refusal.plan refusal.why ++ newline
 fault_text (fault.Threads why) = thread_line why ++ newline
 fault_text fault.Memory = codes "fault memory" ++ newline

@@ -4,6 +4,7 @@ pub mod Close
 pub mod Deadlock
 pub mod EventLog
 pub mod FaultLine
+pub mod Faults
 pub mod OneNode
 pub mod OneRun
 pub mod Pieces

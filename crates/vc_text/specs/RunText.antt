@@ -1,9 +1,10 @@
 -- What a run answers and writes.
-use Rattle.std.specs.Prelude.{◌≡◌, ℕ, ◌≤◌, List, length, Option, Result, Ok, Err}
+use Rattle.std.specs.Prelude.{◌≡◌, ◌⊎◌, ℕ, ◌≤◌, List, length, Option, Result, Ok, Err}
 use Rattle.std.specs.Io.KnownBytes.{Appends}
 use Rattle.vc_core.specs.declared.close.Close.{Close}
 use Rattle.vc_core.specs.PossibleEvents.{NetworkState}
 use Rattle.vc_core.specs.Replay.{RunsTo}
+use Rattle.vc_core.specs.State.{State, shown}
 use Rattle.vc_core.specs.declared.event.Event.{Event}
 use Rattle.vc_text.specs.ChannelStates.{channels_of}
 use Rattle.vc_plan.specs.declared.plan.Plan.{Plan as Network}
@@ -21,17 +22,25 @@ use Rattle.vc_text.specs.Takes.{HasWordsOf}
 use Rattle.vc_text.specs.Traffic.{traffic}
 
 -- An accepted plan's network was run for at most so many events, which replay, with the headline and a linearization there, and are in the
--- schedule's order. The words of each actor's takes are those of the generator of seed 0 and its number. The run closes as the state says.
--- If it is quiet and there is no cycle of dependencies, only its processes wait.
-pub record IsRunWithin (plan : Network) (schedule : Schedule) (limit : ℕ) (events : List Event) (x : NetworkState) (close : Close) : Type 0 where
+-- schedule's order. The words of each actor's takes are those of the generator of seed 0 and its number.
+pub record IsRunSoFar (plan : Network) (schedule : Schedule) (limit : ℕ) (events : List Event) (x : NetworkState) : Type 0 where
   pub few : length events ≤ limit
   pub runs : RunsTo plan events x
   pub order : IsInOrder plan schedule events x
   pub words : HasWordsOf plan 0 events
+
+-- It was run so, and closes as the state says. If it is quiet and there is no cycle of dependencies, only its processes wait.
+pub record IsRunWithin (plan : Network) (schedule : Schedule) (limit : ℕ) (events : List Event) (x : NetworkState) (close : Close) : Type 0 where
+  pub so_far : IsRunSoFar plan schedule limit events x
   pub closes : Closes plan x (length events) limit close
   pub waits : OnlyProcessesWait plan x close
 
--- It was run so, each actor in turn, and the traffic of the state was written, or a prefix of it if the writer failed. Out of memory,
+-- a run stopped at these events, which a sink has taken, or all but the last, which it could not take
+abbrev pub HasStopped : {K : Type 0} → (K → Network → List Event → State → Type 0) → (K → Network → List Event → Type 0) → K → Network → Schedule → ℕ → Type 0
+HasStopped holds left taken plan schedule limit =
+    (events : List Event) × (s : State) × IsRunSoFar plan schedule limit events (shown s) × (holds taken plan events s ⊎ left taken plan events)
+
+-- A plan was run, each actor in turn, and the traffic of the state was written, or a prefix of it if the writer failed. Out of memory,
 -- nothing was written.
 abbrev pub RunsPlan : Network → Option (List ℕ) → Option (List ℕ) → ℕ → Result StepReport RunFault → Type 0
 RunsPlan plan old new limit (Ok report) =

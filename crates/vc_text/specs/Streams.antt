@@ -1,9 +1,6 @@
 -- What reading all of a reader and writing a whole text do, where the streams tell their bytes.
-use Rattle.std.specs.Prelude.{◌≡◌, ℕ, ◌≤◌, List, length, take, Option, Some, None, Result, Ok, Err, ⊤}
+use Rattle.std.specs.Prelude.{◌≡◌, ℕ, List, take, Option, Some, None, Result, Ok, Err, ⊤}
 use Rattle.std.specs.Io.KnownBytes.{Appends}
-use Rattle.vc_plan.specs.declared.plan.Plan.{Plan as Network}
-use Rattle.vc_reader.specs.NetworkText.{Reads}
-use Rattle.vc_reader.specs.declared.refused.ReadRefused.{ReadRefused}
 use Rattle.vc_text.specs.declared.fault.RunFault.{RunFault}
 use Rattle.vc_text.specs.declared.fault.RunFault.TheVariants.{Read, Write, Memory}
 
@@ -32,7 +29,3 @@ Writes old new text (Err _) = ⊥
 -- a network file has at most so many bytes
 abbrev pub most_bytes : ℕ
 most_bytes = 16777216
-
--- the text is that of a network file, and is read so
-abbrev pub ReadsFile : List ℕ → Result Network ReadRefused → Type 0
-ReadsFile text answer = (length text ≤ most_bytes) × Reads text answer

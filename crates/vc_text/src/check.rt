@@ -1,26 +1,49 @@
 //! Checking a network file.
 ghost use Rattle.std.specs.Prelude.{◌≡◌, IfOk};
 ghost use Rattle.vc_text.specs.Streams.{Writes};
-ghost use Rattle.vc_text.specs.CheckText.{ReadsAccepted, Checks, accepted_text as text_of_accepted};
+ghost use Rattle.vc_text.specs.CheckText.{ReadsAccepted, ReadsText, Checks, accepted_text as text_of_accepted};
+ghost use Rattle.vc_text.specs.Private.CheckText.{AcceptsPlan};
 
 use crate::fault::RunFault;
-use crate::streams::{read_plan, write_text};
+use crate::network_file::{NetworkFile, read_file};
+use crate::streams::{read_all, write_text};
 use std::alloc::Global;
 use std::io::{Read, Write};
 use vc_packets::Memory;
 use vc_plan::{Accepted, Plan, check};
 use vc_waits::push_number;
 
-/// The network that the reader has, where the checker accepts it. It fails where the reader fails, where the file or its plan is refused,
-/// and for want of memory.
-pub fn read_accepted<R: Read>(alloc: Global, reader: &mut R) -> Result<Accepted, RunFault>
-    ensures { ReadsAccepted (R.remaining reader.old) result }
+/// The network of a whole file's plan, if `check` accepts it.
+fn accept(alloc: Global, plan: Plan) -> Result<Accepted, RunFault>
+    ensures { AcceptsPlan plan result }
 {
-    let plan = read_plan(alloc, reader)?;
     match check(alloc, plan) {
         Ok(accepted) => Ok(accepted),
         Err(refusal) => Err(RunFault::Plan(refusal)),
     }
+}
+
+/// The network of a network file, if `check` accepts it. The short form of a file is labelled first. The call fails if the text or its
+/// plan is refused, if the network can't be labelled, or when out of memory.
+#[tactic(auto, using(crate::proofs::Forms::accepts_whole, crate::proofs::Forms::reads_none))]
+fn accept_text(alloc: Global, text: &[u8]) -> Result<Accepted, RunFault>
+    ensures { ReadsText text.now result }
+{
+    match read_file(alloc, text) {
+        Ok(NetworkFile::Whole(plan)) => accept(alloc, plan),
+        Ok(NetworkFile::Short(network)) => Ok(network),
+        Err(fault) => Err(fault),
+    }
+}
+
+/// The network of the network file that the reader has, if `check` accepts it. The short form of a file is labelled first. The call fails
+/// if the reader fails, if the text or its plan is refused, if the network can't be labelled, or when out of memory.
+#[tactic(auto, using(crate::proofs::Forms::reads_all))]
+pub fn read_accepted<R: Read>(alloc: Global, reader: &mut R) -> Result<Accepted, RunFault>
+    ensures { ReadsAccepted (R.remaining reader.old) result }
+{
+    let text = read_all(alloc, reader)?;
+    accept_text(alloc, text.as_slice())
 }
 
 /// The line of an accepted network: how many nodes, switches, virtual links and channels it has. It fails for want of memory alone.

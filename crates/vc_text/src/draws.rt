@@ -1,13 +1,13 @@
 //! Events in a random order: who makes the next event of a run is drawn, and what it does.
-ghost use Rattle.std.specs.Prelude.{◌≡◌, ◌<◌, ◌≤◌, ◌%◌, ◌-◌, ◌^◌, ℕ, false, Ok, IfOk, IfSome, OnOk};
+ghost use Rattle.std.specs.Prelude.{◌≡◌, ◌<◌, ◌≤◌, ◌%◌, ◌-◌, ◌^◌, ◌+◌, ℕ, false, Ok, IfOk, IfSome, OnErr, OnOk};
 ghost use Rattle.rand_pcg.specs.Pcg.{pcg32};
 ghost use Rattle.vc_core.specs.Choices.{MayMakeOne, without_word};
 ghost use Rattle.vc_core.specs.PossibleEvents.{CanHappen};
 ghost use Rattle.vc_core.specs.Private.Turns.{IsAtRest};
 ghost use Rattle.vc_core.specs.State.{shown, state_of, IsNetworkOf, MakesEvent};
 ghost use Rattle.vc_plan.specs.declared.plan.Plan.{Plan};
-ghost use Rattle.vc_text.specs.Private.Draws.{DrawsActor, DrawsAct, DrawsOn, GivesWord, IsOfPlan, RunsBy};
-ghost use Rattle.vc_text.specs.Private.Simulation.{RunsOut, counted};
+ghost use Rattle.vc_text.specs.Private.Draws.{DrawsActor, DrawsAct, DrawsOn, GivesWord, IsOfPlan, RunsBy, StopsDrawing};
+ghost use Rattle.vc_text.specs.Private.Simulation.{RunsOut, StopsBy, counted};
 ghost use Rattle.vc_text.specs.Schedules.{drawer};
 
 use crate::event_sink::EventSink;
@@ -121,7 +121,7 @@ impl Simulation {
         &mut self,
         events: &mut K,
         draws: &mut Draws,
-    ) -> Result<bool, Memory>
+    ) -> Result<bool, K::Fault>
         requires few { self.old.made < 2 ^ 64 - 1 }
         requires is { IsOfPlan (state_of self.old.network) }
         ensures made { IfOk result (λ had. self.new.made ≡ counted had self.old.made) }
@@ -130,6 +130,8 @@ impl Simulation {
         ensures runs { OnOk result ((seed : ℕ) →
             DrawsOn seed K.holds self.old events.old draws.old.words self.new events.new
             draws.new.words) }
+        ensures stops { OnErr result ((seed : ℕ) → StopsDrawing seed K.holds K.left
+            (self.old.made + 1) self.old events.old draws.old.words events.new) }
         ensures rests { result ≡ Ok false → (p : Plan) →
             IsNetworkOf p (state_of self.old.network) → IsAtRest p (state_of self.new.network) }
     {
@@ -153,12 +155,14 @@ impl Simulation {
         limit: u64,
         seed: u32,
         meter: &Meter,
-    ) -> Result<(), Memory>
+    ) -> Result<(), K::Fault>
         requires few { self.old.made ≤ limit }
         requires is { IsOfPlan (state_of self.old.network) }
         ensures few { OnOk result (self.new.made ≤ limit) }
         ensures runs { OnOk result
             (RunsBy (Schedule.Random seed) K.holds self.old events.old self.new events.new) }
+        ensures stops { OnErr result (StopsBy (Schedule.Random seed)
+            K.holds K.left limit self.old events.old events.new) }
         ensures ends { OnOk result (RunsOut K.holds limit self.old events.old self.new) }
     {
         let mut draws = Draws::new(self.alloc, seed);

@@ -1,10 +1,12 @@
 //! Why a run gives no result.
 ghost use Rattle.std.specs.Prelude.{◌≡◌};
+ghost use Rattle.vc_text.specs.Faults.{fault_of};
 ghost use Rattle.vc_text.specs.declared.fault.RunFault.TheVariants.{Memory as OutOfMemory, Text as InText, Threads as InThreads};
 
 use std::alloc::{AllocError, AllocFailed};
 use std::fmt::{self, Debug, Formatter, Write};
 use thiserror::Error;
+use vc_label_text::{LabelCause, LabelRefused};
 use vc_packets::Memory;
 use vc_plan::Refusal;
 use vc_reader::ReadRefused;
@@ -22,6 +24,9 @@ pub enum RunFault {
     /// The text is no network.
     #[error("the text is no network: {0}")]
     Text(ReadRefused),
+    /// The network has no labelling, and can't be labelled.
+    #[error("the network can't be labelled")]
+    Network(LabelCause),
     /// The plan is refused.
     #[error(transparent)]
     Plan(Refusal),
@@ -40,6 +45,7 @@ impl Debug for RunFault {
             RunFault::Read => f.write_str("Read"),
             RunFault::Write => f.write_str("Write"),
             RunFault::Text(refused) => write!(f, "Text({refused:?})"),
+            RunFault::Network(cause) => write!(f, "Network({cause:?})"),
             RunFault::Plan(refusal) => write!(f, "Plan({:?})", refusal.why),
             RunFault::Threads(why) => write!(f, "Threads({why:?})"),
             RunFault::Memory => f.write_str("Memory"),
@@ -84,5 +90,18 @@ impl From<ThreadFault> for RunFault {
 
     fn from(why: ThreadFault) -> RunFault {
         RunFault::Threads(why)
+    }
+}
+
+impl From<LabelRefused> for RunFault {
+    ghost from_gives = { λ refused fault. fault ≡ fault_of refused };
+
+    fn from(refused: LabelRefused) -> RunFault {
+        match refused {
+            LabelRefused::Text(refused) => RunFault::Text(refused),
+            LabelRefused::Network(cause) => RunFault::Network(cause),
+            LabelRefused::Plan(refusal) => RunFault::Plan(refusal),
+            LabelRefused::Memory => RunFault::Memory,
+        }
     }
 }

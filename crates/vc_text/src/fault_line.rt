@@ -9,6 +9,7 @@ use crate::read_line::push_read_line;
 use crate::streams::write_text;
 use std::alloc::Global;
 use std::io::Write;
+use vc_label_text::cause_text;
 use vc_packets::Memory;
 use vc_plan::Refusal;
 use vc_threads::ThreadFault;
@@ -35,6 +36,9 @@ pub fn fault_text(alloc: Global, fault: &RunFault) -> Result<Vec<u8>, Memory>
         RunFault::Text(refused) => {
             push_read_line(&mut out, refused)?;
             out.push(10)?;
+        }
+        RunFault::Network(cause) => {
+            out.extend_from_slice(cause_text(alloc, cause)?.as_slice())?;
         }
         RunFault::Plan(Refusal { plan, why }) => {
             push_check_line(&mut out, plan, why)?;

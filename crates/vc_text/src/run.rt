@@ -1,11 +1,11 @@
 //! Running a network event by event.
-ghost use Rattle.std.specs.Prelude.{◌≡◌, [], List, slice_get, IfOk};
+ghost use Rattle.std.specs.Prelude.{◌≡◌, ◌⊎◌, [], List, slice_get, IfOk, OnErr};
 ghost use Rattle.vc_plan.specs.declared.channel.Channel.{Channel};
 ghost use Rattle.vc_plan.specs.declared.plan.Plan.{Plan};
 ghost use Rattle.vc_core.specs.Replay.{IsOpening};
 ghost use Rattle.vc_core.specs.State.{State, shown, state_of, IsNetworkOf};
 ghost use Rattle.vc_core.specs.declared.event.Event.{Event};
-ghost use Rattle.vc_text.specs.RunText.{IsRunWithin, RunsPlan, StepsApart, StepsTogether};
+ghost use Rattle.vc_text.specs.RunText.{HasStopped, IsRunWithin, RunsPlan, StepsApart, StepsTogether};
 ghost use Rattle.vc_text.specs.ChannelStates.{channel_of, channels_of};
 ghost use Rattle.vc_text.specs.Streams.{Writes};
 ghost use Rattle.vc_text.specs.Traffic.{traffic};
@@ -81,7 +81,7 @@ pub fn write_traffic<W: Write>(
 
 /// Runs an accepted network event by event, until no event is enabled or there are `limit` events, which go to a sink with the network
 /// after each. The meter notes from time to time how many there are. The answer is the network after the run, and how it ended. The call
-/// fails only when out of memory.
+/// fails if memory runs out or the sink can't take an event. The sink is then as it was before the run, or has the events so far.
 pub fn run_into<K: EventSink>(
     alloc: Global,
     accepted: &Accepted,
@@ -89,12 +89,15 @@ pub fn run_into<K: EventSink>(
     limit: u64,
     schedule: Schedule,
     meter: &Meter,
-) -> Result<(Network, Close), Memory>
-    requires { (s : State) → IsOpening accepted.now s → K.holds events.old accepted.now [] s }
+) -> Result<(Network, Close), K::Fault>
+    requires { (s : State) → IsOpening accepted.now s →
+        K.holds events.old events.old accepted.now [] s }
     ensures is { IfOk result (λ r. IsNetworkOf accepted.now (state_of r.0)) }
     ensures run { IfOk result (λ r. (es : List Event) ×
-        K.holds events.new accepted.now es (state_of r.0) ×
+        K.holds events.old events.new accepted.now es (state_of r.0) ×
         IsRunWithin accepted.now schedule limit es (shown (state_of r.0)) r.1) }
+    ensures stops { OnErr result ((events.new ≡ events.old) ⊎ HasStopped
+        (K.holds events.old) (K.left events.old) events.new accepted.now schedule limit) }
 {
     let mut run = Simulation::new(alloc, accepted)?;
     run.make_events(events, limit, schedule, meter)?;

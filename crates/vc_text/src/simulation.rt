@@ -1,5 +1,5 @@
 //! A network run event by event, in rounds over its actors.
-ghost use Rattle.std.specs.Prelude.{◌≡◌, ◌⊎◌, ◌<◌, ◌≤◌, ◌+◌, ◌^◌, ◌-◌, [], ℕ, true, false, List, None, Ok, IfOk, OnOk};
+ghost use Rattle.std.specs.Prelude.{◌≡◌, ◌⊎◌, ◌<◌, ◌≤◌, ◌+◌, ◌^◌, ◌-◌, [], ℕ, true, false, List, None, Ok, IfOk, OnErr, OnOk};
 ghost use Rattle.vc_plan.specs.declared.plan.Plan.{Plan};
 ghost use Rattle.vc_core.specs.Awake.{StaysAwake};
 ghost use Rattle.vc_core.specs.Replay.{IsOpening};
@@ -10,7 +10,7 @@ ghost use Rattle.vc_actor.specs.Turns.{actors};
 ghost use Rattle.vc_core.specs.declared.event.Event.{Event};
 ghost use Rattle.vc_text.specs.Close.{Closes};
 ghost use Rattle.vc_text.specs.Private.Draws.{IsOfPlan, RunsBy};
-ghost use Rattle.vc_text.specs.Private.Simulation.{HasRun, HasTaken, LeadsOn, LeadsOnSoFar, RunsOut, RunsOutSoFar, all_awake, counted};
+ghost use Rattle.vc_text.specs.Private.Simulation.{HasRun, HasTaken, LeadsOn, LeadsOnSoFar, RunsOut, RunsOutSoFar, Stops, StopsBy, all_awake, counted};
 
 use crate::event_sink::EventSink;
 use crate::generators::Generators;
@@ -70,13 +70,15 @@ impl Simulation {
         events: &mut K,
         actor: u8,
         progress: &mut Progress,
-    ) -> Result<bool, Memory>
+    ) -> Result<bool, K::Fault>
         requires actor { actor < 64 }
         requires few { progress.old.made < 2 ^ 64 - 1 }
         requires none { (link : ℕ) → HasFront (state_of self.old.network) actor link → ⊥ }
         ensures made { IfOk result (λ had. progress.new.made ≡ counted had progress.old.made) }
         ensures runs { OnOk result
             (LeadsOnSoFar K.holds self.old events.old progress.old self.new events.new progress.new) }
+        ensures stops { OnErr result
+            (Stops K.holds K.left (progress.old.made + 1) self.old events.old progress.old events.new) }
         ensures still { result ≡ Ok false → (p : Plan) →
             IsNetworkOf p (state_of self.old.network) →
             state_of self.new.network ≡ state_of self.old.network }
@@ -101,12 +103,14 @@ impl Simulation {
         events: &mut K,
         actor: u8,
         progress: &mut Progress,
-    ) -> Result<bool, Memory>
+    ) -> Result<bool, K::Fault>
         requires actor { actor < 64 }
         requires few { progress.old.made < 2 ^ 64 - 1 }
         ensures made { IfOk result (λ had. progress.new.made ≡ counted had progress.old.made) }
         ensures runs { OnOk result
             (LeadsOnSoFar K.holds self.old events.old progress.old self.new events.new progress.new) }
+        ensures stops { OnErr result
+            (Stops K.holds K.left (progress.old.made + 1) self.old events.old progress.old events.new) }
         ensures still { result ≡ Ok false → (p : Plan) →
             IsNetworkOf p (state_of self.old.network) →
             state_of self.new.network ≡ state_of self.old.network }
@@ -133,12 +137,14 @@ impl Simulation {
         events: &mut K,
         limit: u64,
         progress: &mut Progress,
-    ) -> Result<bool, Memory>
+    ) -> Result<bool, K::Fault>
         requires { progress.old.made ≤ limit }
         ensures few { OnOk result (progress.new.made ≤ limit) }
         ensures more { result ≡ Ok true → progress.old.made < progress.new.made }
         ensures runs { OnOk result
             (LeadsOnSoFar K.holds self.old events.old progress.old self.new events.new progress.new) }
+        ensures stops { OnErr result
+            (Stops K.holds K.left limit self.old events.old progress.old events.new) }
         ensures ends { result ≡ Ok false →
             RunsOutSoFar K.holds limit self.old events.old progress.old self.new progress.new }
     {
@@ -172,12 +178,14 @@ impl Simulation {
         events: &mut K,
         limit: u64,
         progress: &mut Progress,
-    ) -> Result<bool, Memory>
+    ) -> Result<bool, K::Fault>
         requires { progress.old.made ≤ limit }
         ensures few { OnOk result (progress.new.made ≤ limit) }
         ensures more { result ≡ Ok true → progress.old.made < progress.new.made }
         ensures runs { OnOk result
             (LeadsOnSoFar K.holds self.old events.old progress.old self.new events.new progress.new) }
+        ensures stops { OnErr result
+            (Stops K.holds K.left limit self.old events.old progress.old events.new) }
         ensures ends { result ≡ Ok false →
             RunsOutSoFar K.holds limit self.old events.old progress.old self.new progress.new }
     {
@@ -215,10 +223,12 @@ impl Simulation {
         events: &mut K,
         limit: u64,
         meter: &Meter,
-    ) -> Result<(), Memory>
+    ) -> Result<(), K::Fault>
         requires { self.old.made ≤ limit }
         ensures few { OnOk result (self.new.made ≤ limit) }
         ensures runs { OnOk result (LeadsOn K.holds self.old events.old self.new events.new) }
+        ensures stops { OnErr result
+            (StopsBy Schedule.InTurn K.holds K.left limit self.old events.old events.new) }
         ensures ends { OnOk result (RunsOut K.holds limit self.old events.old self.new) }
     {
         let mut progress = self.progress();
@@ -237,12 +247,14 @@ impl Simulation {
         limit: u64,
         schedule: Schedule,
         meter: &Meter,
-    ) -> Result<(), Memory>
+    ) -> Result<(), K::Fault>
         requires few { self.old.made ≤ limit }
         requires is { IsOfPlan (state_of self.old.network) }
         ensures few { OnOk result (self.new.made ≤ limit) }
         ensures runs { OnOk result
             (RunsBy schedule K.holds self.old events.old self.new events.new) }
+        ensures stops { OnErr result
+            (StopsBy schedule K.holds K.left limit self.old events.old events.new) }
         ensures ends { OnOk result (RunsOut K.holds limit self.old events.old self.new) }
     {
         match schedule {

@@ -1,13 +1,10 @@
 //! Reading all of a reader, and writing a whole text.
 ghost use Rattle.std.specs.Prelude.{◌≤◌, length, IfOk, IfErr};
 ghost use Rattle.vc_text.specs.Streams.{IsAllOf, Writes, IsReadFault, most_bytes};
-ghost use Rattle.vc_text.specs.Private.Streams.{ReadsPlan};
 
 use crate::fault::RunFault;
 use std::alloc::Global;
 use std::io::{Read, Write};
-use vc_plan::Plan;
-use vc_reader::read_network;
 
 /// No network file is longer.
 const MOST_BYTES: usize = 16777216;
@@ -53,15 +50,4 @@ pub fn write_text<W: Write>(writer: &mut W, text: &[u8]) -> Result<(), RunFault>
         }
     }
     Ok(())
-}
-
-/// The plan of the network file that the reader has.
-pub(crate) fn read_plan<R: Read>(alloc: Global, reader: &mut R) -> Result<Plan, RunFault>
-    ensures { ReadsPlan (R.remaining reader.old) result }
-{
-    let text = read_all(alloc, reader)?;
-    match read_network(alloc, text.as_slice()) {
-        Ok(plan) => Ok(plan),
-        Err(refused) => Err(RunFault::Text(refused)),
-    }
 }

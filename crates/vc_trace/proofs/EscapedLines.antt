@@ -1,5 +1,5 @@
 -- A line with a newline behind it, as it is printed.
-use Rattle.std.proofs.Common.{◌≡◌, ◌∙◌, ◌++◌, List, ℕ, append-nil, ap}
+use Rattle.std.proofs.Common.{◌≡◌, ◌++◌, List, ℕ}
 use Rattle.std.proofs.lemmas.List.Concat.{flat_map-append}
 use Rattle.vc_waits.specs.Waits.{newline}
 use Rattle.vc_trace.specs.Escapes.{escaped, escaped_byte}

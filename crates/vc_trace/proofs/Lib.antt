@@ -6,4 +6,5 @@ pub mod LineWords
 pub mod NameWords
 pub mod Replays
 pub mod RunTexts
+pub mod StoppedTraces
 pub mod Verbs

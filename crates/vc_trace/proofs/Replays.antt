@@ -1,5 +1,5 @@
 -- What was read, and what came of it, together.
-use Rattle.std.proofs.Common.{ℕ, Bool, List, Option, Some, None, Result, Ok, Err, ap, refl}
+use Rattle.std.proofs.Common.{ℕ, Bool, List, Option, Some, None, Result, Ok, Err, ap, refl, inl, inr}
 use Rattle.vc_core.specs.Replay.{Replays as HasReplayed}
 use Rattle.vc_core.specs.State.{IsNetworkOf, State, shown}
 use Rattle.vc_core.specs.declared.close.Close.{Close}
@@ -26,7 +26,8 @@ fails_any (Some text) = tt
 
 read_names : (network : Option (List ℕ)) (p : Network) → ReadsAccepted network (Ok p) → NamesDiffer network p
 read_names None p read = tt
-read_names (Some text) p ((short, (d, utf8, is, means)), accepted) = names_differ d p means
+read_names (Some text) p (few, inl ((d, utf8, is, means), accepted)) = names_differ d p means
+read_names (Some text) p (few, inr (short, (made, labelled, (d, utf8, is, means), accepted))) = names_differ d p means
 
 -- the network was read, and its events were made
 pub replays_by : (why : Bool) (network known old new : Option (List ℕ)) (Holds : Option (List ℕ) → Type 0) (Fails : Type 0) (p : Network) (result : Result Replayed RunFault) →

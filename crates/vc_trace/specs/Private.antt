@@ -4,5 +4,6 @@ pub mod EventReader
 pub mod EventText
 pub mod Names
 pub mod Replay
+pub mod TraceSink
 pub mod Verbs
 pub mod Words

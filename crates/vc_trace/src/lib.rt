@@ -1,8 +1,9 @@
 //! The trace of a run: its events as text, a line each.
 //!
 //! The layer above knows that a traced run writes the text of its events and then its traffic (`specs/TraceText`, `specs/EventText`), or
-//! a front of that where the writer failed, over any reader and any writer that tell their bytes. The text goes through a buffer of
-//! 4,096 bytes, so it takes no memory of its own.
+//! a prefix of that if the writer failed, over any reader and any writer that tell their bytes. The text goes through a buffer of
+//! 4,096 bytes, so it takes no memory of its own. A run event by event writes each event as it happens: if memory runs out, the lines of
+//! the events so far have been written.
 //!
 //! A replay reads such lines, makes their events, and writes the traffic of the state that they lead to, or the first line that is not
 //! that of an event which can happen (`specs/Replay`), without its control characters (`specs/Escapes`). What it reads from a line counts
@@ -27,6 +28,7 @@ mod replay;
 mod replayed;
 mod step_run;
 mod thread_run;
+mod trace_sink;
 mod verb;
 mod word;
 mod words;

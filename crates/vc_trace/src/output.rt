@@ -10,25 +10,7 @@ use crate::event_text::put_event;
 use std::io::Write;
 use vc_core::Event;
 use vc_plan::Plan;
-use vc_text::{EventLog, Piece, RunFault, Tail, WriteFailed};
-
-// The lines of the events of a log.
-fn put_log<W: Write>(
-    piece: &mut Piece,
-    writer: &mut W,
-    plan: &Plan,
-    events: &EventLog,
-) -> Result<(), WriteFailed>
-    ensures ok { OnOk result (Passes (W.contents writer.old) piece.old.items
-        (W.contents writer.new) piece.new.items (events_text plan.now events.now)) }
-    ensures err { OnErr result (AppendsFront (W.contents writer.old)
-        (W.contents writer.new) (piece.old.items ++ (events_text plan.now events.now))) }
-{
-    for event in events.iter() {
-        put_event(piece, writer, plan, &event)?;
-    }
-    Ok(())
-}
+use vc_text::{Piece, RunFault, Tail, WriteFailed};
 
 // The lines of these events.
 fn put_steps<W: Write>(
@@ -48,23 +30,6 @@ fn put_steps<W: Write>(
     Ok(())
 }
 
-// The lines of the events of a log, and then the traffic.
-fn pass_log<W: Write>(
-    writer: &mut W,
-    plan: &Plan,
-    events: &EventLog,
-    tail: &Tail<'_>,
-) -> Result<(), WriteFailed>
-    ensures ok { OnOk result (Appends (W.contents writer.old) (W.contents writer.new)
-        (events_text plan.now events.now ++ tail_text tail.now)) }
-    ensures err { OnErr result (AppendsFront (W.contents writer.old) (W.contents writer.new)
-        (events_text plan.now events.now ++ tail_text tail.now)) }
-{
-    let mut piece = Piece::new();
-    put_log(&mut piece, writer, plan, events)?;
-    tail.put_last(&mut piece, writer)
-}
-
 // The lines of these events, and then the traffic.
 fn pass_steps<W: Write>(
     writer: &mut W,
@@ -80,22 +45,6 @@ fn pass_steps<W: Write>(
     let mut piece = Piece::new();
     put_steps(&mut piece, writer, plan, steps)?;
     tail.put_last(&mut piece, writer)
-}
-
-/// Writes the lines of the events of a log, and then the traffic.
-pub(crate) fn write_log<W: Write>(
-    writer: &mut W,
-    plan: &Plan,
-    events: &EventLog,
-    tail: &Tail<'_>,
-) -> Result<(), RunFault>
-    ensures { Writes (W.contents writer.old) (W.contents writer.new)
-        (events_text plan.now events.now ++ tail_text tail.now) result }
-{
-    match pass_log(writer, plan, events, tail) {
-        Ok(()) => Ok(()),
-        Err(WriteFailed) => Err(RunFault::Write),
-    }
 }
 
 /// Writes the lines of these events, and then the traffic.

@@ -15,7 +15,9 @@ use Rattle.vc_text.specs.Schedules.{AreDrawn, IsInOrder, Picks, drawer}
 use Rattle.vc_text.specs.Private.Generators.{DrawsFor}
 use Rattle.vc_text.specs.Private.Simulation.{HasRun, HasTaken}
 use Rattle.vc_text.specs.declared.generators.Generators.{Generators}
+use Rattle.vc_text.specs.RunText.{HasStopped}
 use Rattle.vc_text.specs.declared.schedule.Schedule.{Schedule}
+use Rattle.vc_text.specs.declared.schedule.Schedule.TheVariants.{Random}
 use Rattle.vc_text.specs.declared.simulation.Simulation.{Simulation}
 
 -- it is the network of some plan
@@ -46,13 +48,19 @@ pub record HasDrawn (p : Plan) (seed : ℕ) (events : List Event) (run : Simulat
   pub drawn : AreDrawn p (drawer seed) (begins (network_of p) (begin_of p)) events (shown (state_of run.network)) last
 
 -- whatever events were drawn so, some more are
-abbrev pub DrawsOn : {K : Type 0} → ℕ → (K → Plan → List Event → State → Type 0) → Simulation → K → Lcg → Simulation → K → Lcg → Type 0
-DrawsOn seed holds old taken g new taken' next =
-    (p : Plan) (events : List Event) → HasTaken holds taken p events old → HasDrawn p seed events old g
-    → (events' : List Event) × HasTaken holds taken' p events' new × HasDrawn p seed events' new next
+abbrev pub DrawsOn : {K : Type 0} → ℕ → (K → K → Plan → List Event → State → Type 0) → Simulation → K → Lcg → Simulation → K → Lcg → Type 0
+DrawsOn {K} seed holds old taken g new taken' next =
+    (from : K) (p : Plan) (events : List Event) → HasTaken (holds from) taken p events old → HasDrawn p seed events old g
+    → (events' : List Event) × HasTaken (holds from) taken' p events' new × HasDrawn p seed events' new next
+
+-- or the run stops there
+abbrev pub StopsDrawing : {K : Type 0} → ℕ → (K → K → Plan → List Event → State → Type 0) → (K → K → Plan → List Event → Type 0) → ℕ → Simulation → K → Lcg → K → Type 0
+StopsDrawing {K} seed holds left limit old taken g taken' =
+    (from : K) (p : Plan) (events : List Event) → HasTaken (holds from) taken p events old → HasDrawn p seed events old g
+    → HasStopped (holds from) (left from) taken' p (Random seed) limit
 
 -- from the opening state on some events lead to the new run, and are in the schedule's order
-abbrev pub RunsBy : {K : Type 0} → Schedule → (K → Plan → List Event → State → Type 0) → Simulation → K → Simulation → K → Type 0
-RunsBy schedule holds old taken new taken' =
-    (p : Plan) → HasTaken holds taken p [] old → HasRun p [] old
-    → (events : List Event) × HasTaken holds taken' p events new × HasRun p events new × IsInOrder p schedule events (shown (state_of new.network))
+abbrev pub RunsBy : {K : Type 0} → Schedule → (K → K → Plan → List Event → State → Type 0) → Simulation → K → Simulation → K → Type 0
+RunsBy {K} schedule holds old taken new taken' =
+    (from : K) (p : Plan) → HasTaken (holds from) taken p [] old → HasRun p [] old
+    → (events : List Event) × HasTaken (holds from) taken' p events new × HasRun p events new × IsInOrder p schedule events (shown (state_of new.network))

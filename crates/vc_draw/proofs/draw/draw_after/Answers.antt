@@ -12,7 +12,7 @@ use Rattle.vc_draw.proofs.draw.draw_after.Goals as goal
 pub state_graph-requires : goal.state_graph-requires
 state_graph-requires g c =
     let ran = c.in_ok-network.ensures in
-    subst (λ (p : Plan). (events : List Event) × Reached p events (state_of c.in_ok-network.network)) (sym c.plan.ensures.plan) (ran.run.0, record { is = ran.is; happen = ran.run.1.runs.happen })
+    subst (λ (p : Plan). (events : List Event) × Reached p events (state_of c.in_ok-network.network)) (sym c.plan.ensures.plan) (ran.run.0, record { is = ran.is; happen = ran.run.1.so_far.runs.happen })
 
 -- the writer failed, or there was no memory
 pub returns : goal.returns

@@ -1,6 +1,5 @@
-use Rattle.std.proofs.Common.{Err, None, Ok, Some, subst, sym}
+use Rattle.std.proofs.Common.{subst, sym}
 use Rattle.vc_core.specs.State.{shown, state_of}
-use Rattle.vc_core.proofs.ReplayRuns.{replays}
 use Rattle.vc_text.proofs.StepText.{handed_on}
 use Rattle.vc_text.specs.Tail.{IsTail, tail_text}
 use Rattle.vc_trace.specs.Private.Replay.{MakesEvents}

@@ -49,7 +49,7 @@ itself p = record { program = record { process = λ n less. refl; kinds = λ n l
 never_quiet : (p : Plan) (limit : ℕ) (events : List Event) (x : NetworkState) (close : Close) → NeverStuckAnywhere → IsRunWithin p InTurn limit events x close → HasRanks p → NeverStuck p → close ≢ Quiet
 never_quiet p limit events x close law run ranks never is =
     let quiet = subst (Closes p x (length events) limit) is run.closes in
-    quiet.1 (law p p Wormhole (map event_of events) x never (itself p) run.runs.accepted ranks run.runs.happen (λ e can.
+    quiet.1 (law p p Wormhole (map event_of events) x never (itself p) run.so_far.runs.accepted ranks run.so_far.runs.happen (λ e can.
     let (a, same) = code_act e.act in
     let here : ActBy net.Act = record { actor = e.actor; act = act_of a } in
     let is : here ≡ e = ap (λ z. record { actor = e.actor; act = z }) same in

@@ -10,8 +10,8 @@ abbrev pub invariant-loop-self : goal.invariant-loop-self
 invariant-loop-self g l = record {
   few : l.self.made ≤ l.limit;
   kept : (p : Plan) → IsNetworkOf p (state_of l.fn.self.network) → IsNetworkOf p (state_of l.self.network);
-  runs : (p : Plan) → HasTaken g.K.EventSink.holds l.fn.events p [] l.fn.self → HasRun p [] l.fn.self →
-      (es : List Event) × HasTaken g.K.EventSink.holds l.events p es l.self × HasDrawn p l.fn.seed es l.self l.draws.words;
+  runs : (from : g.row.K.Denot) (p : Plan) → HasTaken (g.K.EventSink.holds from) l.fn.events p [] l.fn.self → HasRun p [] l.fn.self →
+      (es : List Event) × HasTaken (g.K.EventSink.holds from) l.events p es l.self × HasDrawn p l.fn.seed es l.self l.draws.words;
 }
 
 abbrev pub decreases-loop-self : goal.decreases-loop-self

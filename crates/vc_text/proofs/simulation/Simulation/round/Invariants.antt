@@ -14,9 +14,9 @@ invariant-loop-actor g l = record {
   edge : (from : ℕ) × (from ≤ 64) × (l.left ≡ 2 ^ 64 - 2 ^ from);
   runs : LeadsOnSoFar g.K.EventSink.holds l.fn.self l.fn.events l.fn.progress l.self l.events l.progress;
   some : l.fn.progress.made ≤ l.progress.made;
-  same : l.progress.made ≡ l.fn.progress.made → (p : Plan) (es : List Event) → HasTaken g.K.EventSink.holds l.fn.events p es l.fn.self → HasRunSoFar p es l.fn.self l.fn.progress →
+  same : l.progress.made ≡ l.fn.progress.made → (from : g.row.K.Denot) (p : Plan) (es : List Event) → HasTaken (g.K.EventSink.holds from) l.fn.events p es l.fn.self → HasRunSoFar p es l.fn.self l.fn.progress →
       state_of l.self.network ≡ state_of l.fn.self.network;
-  rests : l.progress.made ≡ l.fn.progress.made → (p : Plan) (es : List Event) → HasTaken g.K.EventSink.holds l.fn.events p es l.fn.self → HasRunSoFar p es l.fn.self l.fn.progress →
+  rests : l.progress.made ≡ l.fn.progress.made → (from : g.row.K.Denot) (p : Plan) (es : List Event) → HasTaken (g.K.EventSink.holds from) l.fn.events p es l.fn.self → HasRunSoFar p es l.fn.self l.fn.progress →
       (k : ℕ) → k < 64 → bit_at l.left k ≡ 0 → k < actors p → Rests p (state_of l.fn.self.network) k;
 }
 

@@ -1,4 +1,4 @@
-use Rattle.std.proofs.Common.{◌++◌, map}
+use Rattle.std.proofs.Common.{map}
 use Rattle.std.proofs.lemmas.Result.{on_err_weaker, on_ok_weaker}
 use Rattle.vc_text.specs.Traffic.{traffic}
 use Rattle.vc_text.specs.Views.{shown}
