@@ -1,13 +1,16 @@
 -- What is told of a network file.
-use Rattle.std.specs.Prelude.{◌≡◌, ◌≢◌, ℕ, ◌+◌, ◌-◌, ◌*◌, ◌≤◌, Bool, true, false, List, [], ◌++◌, length, take, codes, decimal, Option, Some, Result, Ok, Err}
+use Rattle.std.specs.Prelude.{◌≡◌, ◌≢◌, ℕ, ◌+◌, ◌-◌, ◌*◌, ◌≤◌, Bool, true, false, List, [], ◌++◌, length, take, codes, decimal, ◌⊎◌, Option, Some, Result, Ok, Err, ⊤}
 use Rattle.std.specs.Io.KnownBytes.{Appends}
 use Rattle.std.specs.List.{AllZip, flat_map}
+use Rattle.vc_label_text.specs.Short.{IsShort}
 use Rattle.vc_plan.specs.declared.check_refused.CheckRefused.TheVariants as check
 use Rattle.vc_plan.specs.declared.check_refused.Refusal.{Refusal}
 use Rattle.vc_plan.specs.declared.plan.Plan.{Plan as Network}
 use Rattle.vc_plan.specs.declared.port.Port.{Port}
 use Rattle.vc_plan.specs.declared.vlink_length.VlinkLength.{VlinkLength}
 use Rattle.vc_plan.specs.WayLengths.{IsVlinkLength}
+use Rattle.vc_reader.specs.declared.bare.BareNetwork.{BareNetwork}
+use Rattle.vc_reader.specs.Bare.{ReadsBare}
 use Rattle.vc_reader.specs.declared.refused.ReadRefused.{ReadRefused}
 use Rattle.vc_reader.specs.declared.refused.ReadRefused.TheVariants as read
 use Rattle.vc_text.specs.CheckText.{ReadsAccepted, accepted_text}
@@ -16,10 +19,13 @@ use Rattle.vc_text.specs.FaultLine.{fault_text}
 use Rattle.vc_text.specs.Streams.{AppendsFront, IsAllOf}
 use Rattle.vc_waits.specs.Waits.{newline}
 use Rattle.vc_text.specs.declared.fault.RunFault.{RunFault}
-use Rattle.vc_text.specs.declared.fault.RunFault.TheVariants.{Read, Write, Text, Plan, Memory}
+use Rattle.vc_text.specs.declared.fault.RunFault.TheVariants.{Read, Write, Text, Network as Unlabelled, Plan, Memory}
+use Rattle.vc_explain.specs.declared.offender.Offender.{Offender}
+use Rattle.vc_explain.specs.Causes.{cause_sentence}
 use Rattle.vc_explain.specs.Lengths.{lengths_text}
 use Rattle.vc_explain.specs.Offenders.{offenders, path_of}
 use Rattle.vc_explain.specs.Place.{byte_line, path_line}
+use Rattle.vc_explain.specs.ShortPlaces.{in_short}
 use Rattle.vc_explain.specs.Sentences.{plan_sentence, text_sentence}
 use Rattle.vc_explain.specs.Walk.{path_walked}
 
@@ -43,21 +49,32 @@ text_place text n (read.Range path) = path_line text path
 text_place text n (read.Unknown path) = path_line text path
 text_place text n read.Memory = []
 
--- where a plan is refused: what the refusal names
-abbrev pub plan_places : List ℕ → Refusal → List ℕ
-plan_places text refusal = flat_map (λ offender. path_line text (path_of offender)) (offenders refusal.plan refusal.why)
+-- the places of what a refusal names
+abbrev pub places_text : List ℕ → List Offender → List ℕ
+places_text text found = flat_map (λ offender. path_line text (path_of offender)) found
 
--- the line of a refusal, a sentence for it, where it is, and the path of a packet that goes astray
-abbrev pub refusal_told : List ℕ → ℕ → RunFault → List ℕ
-refusal_told text n (Text refused) = fault_text (Text refused) ++ text_sentence refused ++ newline ++ text_place text n refused
-refusal_told text n (Plan refusal) = fault_text (Plan refusal) ++ plan_sentence refusal.why ++ newline ++ plan_places text refusal ++ path_walked refusal.plan refusal.why
-refusal_told text n fault = []
+-- The line of a refusal, a sentence for it, where it is, and the path of a packet that goes astray. A plan is refused where its file has
+-- these offenders.
+abbrev pub refusal_told : List ℕ → ℕ → List Offender → RunFault → List ℕ
+refusal_told text n found (Text refused) = fault_text (Text refused) ++ text_sentence refused ++ newline ++ text_place text n refused
+refusal_told text n found (Unlabelled cause) = fault_text (Unlabelled cause) ++ cause_sentence cause ++ newline
+refusal_told text n found (Plan refusal) =
+    fault_text (Plan refusal) ++ plan_sentence refusal.why ++ newline ++ places_text text found ++ path_walked refusal.plan refusal.why
+refusal_told text n found fault = []
 
 -- a refusal, and not for want of memory
 abbrev pub IsRefusal : RunFault → Type 0
 IsRefusal (Text refused) = refused ≢ read.Memory
+IsRefusal (Unlabelled cause) = ⊤
 IsRefusal (Plan refusal) = refusal.why ≢ check.Memory
 IsRefusal fault = ⊥
+
+-- What a refusal of a plan names in the file: in a whole file all of it, and in the short form what of it is there.
+abbrev pub Has : List ℕ → RunFault → List Offender → Type 0
+Has text (Plan refusal) found =
+    ((IsShort text → ⊥) × (found ≡ offenders refusal.plan refusal.why))
+    ⊎ ((bare : BareNetwork) × IsShort text × ReadsBare text (Ok bare) × (found ≡ flat_map (in_short bare) (offenders refusal.plan refusal.why)))
+Has text fault found = ⊤
 
 -- what is told of an accepted network
 abbrev pub IsToldOfAccepted : Network → List ℕ → Type 0
@@ -67,7 +84,8 @@ IsToldOfAccepted plan told =
 -- What is told of a refusal. Of the byte at which a text stops being JSON no more is said here than that it is in the text, or that the
 -- text ends there.
 abbrev pub IsToldOfRefusal : List ℕ → RunFault → List ℕ → Type 0
-IsToldOfRefusal text fault told = IsRefusal fault × ((n : ℕ) × (n ≤ length text) × (told ≡ refusal_told text n fault))
+IsToldOfRefusal text fault told =
+    IsRefusal fault × ((n : ℕ) × (found : List Offender) × (n ≤ length text) × Has text fault found × (told ≡ refusal_told text n found fault))
 
 -- what is told of a text, and whether its network is accepted
 abbrev pub IsTold : List ℕ → Bool → List ℕ → Type 0

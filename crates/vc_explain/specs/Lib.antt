@@ -1,3 +1,4 @@
+pub mod Causes
 pub mod Explanation
 pub mod Laws
 pub mod Lengths
@@ -7,5 +8,6 @@ pub mod Offenders
 pub mod Parts
 pub mod Place
 pub mod Sentences
+pub mod ShortPlaces
 pub mod Uses
 pub mod Walk

@@ -1,28 +1,35 @@
 //! What is told of a network file.
-ghost use Rattle.std.specs.Prelude.{◌≡◌, ◌++◌, ◌-◌, ◌≤◌, length, take, option_map, IfOk, OnOk, Some};
+ghost use Rattle.std.specs.Prelude.{◌≡◌, ◌++◌, ◌-◌, ◌≤◌, [], length, take, option_map, IfOk, OnOk, Ok, Err, Some};
 ghost use Rattle.std.specs.List.{flat_map};
 ghost use Rattle.vc_plan.specs.KeptLimits.{KeepsLimits};
-ghost use Rattle.vc_text.specs.declared.fault.RunFault.TheVariants.{Text, Plan as InPlan};
-ghost use Rattle.vc_explain.specs.Explanation.{Explains, IsTold, IsToldOfAccepted, IsToldOfRefusal, accepted_told, plan_places, refusal_told, summary_text, text_place};
+ghost use Rattle.vc_text.specs.declared.fault.RunFault.TheVariants.{Text, Network, Plan as InPlan};
+ghost use Rattle.vc_explain.specs.Explanation.{Explains, IsRefusal, IsTold, IsToldOfAccepted, IsToldOfRefusal, accepted_told, refusal_told, summary_text, text_place};
 ghost use Rattle.vc_explain.specs.Offenders.{path_of};
 ghost use Rattle.vc_explain.specs.Place.{path_line};
-ghost use Rattle.vc_text.specs.CheckText.{ReadsAccepted};
+ghost use Rattle.vc_reader.specs.NetworkText.{Reads};
+ghost use Rattle.vc_text.specs.CheckText.{ReadsFile};
 ghost use Rattle.vc_text.specs.Deadlock.{deadlock_text};
 ghost use Rattle.vc_text.specs.Streams.{most_bytes};
 
+use crate::cause::push_cause_sentence;
 use crate::lengths::push_lengths;
 use crate::offender::{Offender, offenders, push_offender_line};
 use crate::place::{push_byte_line, push_path_line};
 use crate::sentence::{plan_sentence, text_sentence};
+use crate::short_places::all_in_short;
 use crate::walk::push_path;
 use serde_json::Value;
 use std::alloc::Global;
 use std::io::{Read, Write};
 use vc_cycles::find_cycle;
+use vc_label_text::LabelCause;
 use vc_packets::Memory;
 use vc_plan::{Accepted, CheckRefused, Plan, Port, Refusal, VlinkLength, check, vlink_lengths};
-use vc_reader::{Path, ReadRefused, Step, read_network};
-use vc_text::{RunFault, accepted_text, cycle_text, fault_text, push_number, read_all, write_text};
+use vc_reader::{Path, ReadRefused, Step, read_bare};
+use vc_text::{
+    NetworkFile, RunFault, accepted_text, cycle_text, fault_text, push_number, read_all, read_file,
+    write_text,
+};
 
 /// What is told of a network file.
 #[derive(Drop)]
@@ -200,19 +207,6 @@ fn push_offender_lines(out: &mut Vec<u8>, text: &[u8], offenders: &[Offender]) -
     Ok(())
 }
 
-/// Where a plan is refused.
-fn push_plan_places(
-    alloc: Global,
-    out: &mut Vec<u8>,
-    text: &[u8],
-    refusal: &Refusal,
-) -> Result<(), Memory>
-    ensures { OnOk result (out.new.items ≡ out.old.items ++ plan_places text.now refusal.now) }
-{
-    let found = offenders(alloc, &refusal.plan, &refusal.why)?;
-    push_offender_lines(out, text, found.as_slice())
-}
-
 /// The byte at which the text stops being JSON, where it is refused for that.
 fn stop_of_refused(alloc: Global, text: &[u8], refused: &ReadRefused) -> Result<usize, Memory>
     ensures { IfOk result (λ n. n ≤ length text.now) }
@@ -232,7 +226,7 @@ fn tell_text(
     refused: &ReadRefused,
 ) -> Result<Vec<u8>, Memory>
     requires { fault.now ≡ Text refused.now }
-    ensures { IfOk result (λ told. told.items ≡ refusal_told text.now n fault.now) }
+    ensures { IfOk result (λ told. told.items ≡ refusal_told text.now n [] fault.now) }
 {
     let mut out = fault_text(alloc, fault)?;
     out.extend_from_slice(text_sentence(refused).as_bytes())?;
@@ -241,25 +235,47 @@ fn tell_text(
     Ok(out)
 }
 
-/// What is told of a plan that is refused.
+/// What is told of a plan that is refused, whose file has these offenders.
 fn tell_plan(
     alloc: Global,
     text: &[u8],
+    found: &[Offender],
     fault: &RunFault,
-    refusal: &Refusal,
 ) -> Result<Vec<u8>, Memory>
-    requires { fault.now ≡ InPlan refusal.now }
-    ensures { IfOk result (λ told. told.items ≡ refusal_told text.now 0 fault.now) }
+    ensures { IfOk result (λ told. IsRefusal fault.now
+        × (told.items ≡ refusal_told text.now 0 found.now fault.now)) }
+{
+    match fault {
+        RunFault::Plan(
+            Refusal {
+                plan: _,
+                why: CheckRefused::Memory,
+            },
+        ) => Err(Memory),
+        RunFault::Plan(refusal) => {
+            let mut out = fault_text(alloc, fault)?;
+            out.extend_from_slice(plan_sentence(&refusal.why).as_bytes())?;
+            out.push(10)?;
+            push_offender_lines(&mut out, text, found)?;
+            push_path(alloc, &mut out, &refusal.plan, &refusal.why)?;
+            Ok(out)
+        }
+        _ => Err(Memory),
+    }
+}
+
+/// What is told of a network that can't be labelled.
+fn tell_cause(alloc: Global, fault: &RunFault, cause: &LabelCause) -> Result<Vec<u8>, Memory>
+    requires { fault.now ≡ Network cause.now }
+    ensures { IfOk result (λ told. told.items ≡ refusal_told [] 0 [] fault.now) }
 {
     let mut out = fault_text(alloc, fault)?;
-    out.extend_from_slice(plan_sentence(&refusal.why).as_bytes())?;
+    push_cause_sentence(&mut out, cause)?;
     out.push(10)?;
-    push_plan_places(alloc, &mut out, text, refusal)?;
-    push_path(alloc, &mut out, &refusal.plan, &refusal.why)?;
     Ok(out)
 }
 
-/// What is told of a refusal.
+/// What is told of a refusal that is not one of a plan.
 fn tell_refusal(alloc: Global, text: &[u8], fault: &RunFault) -> Result<Vec<u8>, Memory>
     ensures { IfOk result (λ told. IsToldOfRefusal text.now fault.now told.items) }
 {
@@ -269,39 +285,65 @@ fn tell_refusal(alloc: Global, text: &[u8], fault: &RunFault) -> Result<Vec<u8>,
             let n = stop_of_refused(alloc, text, refused)?;
             tell_text(alloc, text, n, fault, refused)
         }
-        RunFault::Plan(
-            Refusal {
-                plan: _,
-                why: CheckRefused::Memory,
-            },
-        ) => Err(Memory),
-        RunFault::Plan(refusal) => tell_plan(alloc, text, fault, refusal),
+        RunFault::Network(cause) => tell_cause(alloc, fault, cause),
         _ => Err(Memory),
     }
 }
 
-/// The network of a text, where the checker accepts it.
-fn accepted_of(alloc: Global, text: &[u8]) -> Result<Accepted, RunFault>
-    requires { length text.now ≤ most_bytes }
-    ensures { ReadsAccepted (Some text.now) result }
-{
-    let plan = read_network(alloc, text)?;
-    match check(alloc, plan) {
-        Ok(accepted) => Ok(accepted),
-        Err(refusal) => Err(RunFault::Plan(refusal)),
-    }
-}
-
-/// Tells what is wrong in the text of a network file and where, or what its network has. It fails for want of memory alone.
-pub fn explain(alloc: Global, text: &[u8]) -> Result<Explanation, Memory>
-    requires { length text.now ≤ most_bytes }
+/// What is told of a whole file of this plan.
+fn explain_whole(alloc: Global, text: &[u8], plan: Plan) -> Result<Explanation, Memory>
+    requires limit { length text.now ≤ most_bytes }
+    requires read { Reads text.now (Ok plan) }
     ensures { IfOk result (λ told. IsTold text.now told.is_accepted told.text.items) }
 {
-    match accepted_of(alloc, text) {
+    match check(alloc, plan) {
         Ok(accepted) => Ok(Explanation {
             text: tell_accepted(alloc, &accepted)?,
             is_accepted: true,
         }),
+        Err(refusal) => {
+            let found = offenders(alloc, &refusal.plan, &refusal.why)?;
+            let fault = RunFault::Plan(refusal);
+            Ok(Explanation {
+                text: tell_plan(alloc, text, found.as_slice(), &fault)?,
+                is_accepted: false,
+            })
+        }
+    }
+}
+
+/// What is told of the short form of a file, if the plan of the file that was made of it is refused.
+fn explain_short(alloc: Global, text: &[u8], refusal: Refusal) -> Result<Explanation, Memory>
+    requires limit { length text.now ≤ most_bytes }
+    requires read { ReadsFile text.now (Err (InPlan refusal)) }
+    ensures { IfOk result (λ told. IsTold text.now told.is_accepted told.text.items) }
+{
+    let bare = match read_bare(alloc, text) {
+        Ok(bare) => bare,
+        Err(_) => return Err(Memory),
+    };
+    let found = offenders(alloc, &refusal.plan, &refusal.why)?;
+    let found = all_in_short(alloc, &bare, found)?;
+    let fault = RunFault::Plan(refusal);
+    Ok(Explanation {
+        text: tell_plan(alloc, text, found.as_slice(), &fault)?,
+        is_accepted: false,
+    })
+}
+
+/// Tells what is wrong in the text of a network file and where, or what its network has. The short form of a file is explained as the
+/// network that it is labelled to. The call fails only when out of memory.
+pub fn explain(alloc: Global, text: &[u8]) -> Result<Explanation, Memory>
+    requires { length text.now ≤ most_bytes }
+    ensures { IfOk result (λ told. IsTold text.now told.is_accepted told.text.items) }
+{
+    match read_file(alloc, text) {
+        Ok(NetworkFile::Whole(plan)) => explain_whole(alloc, text, plan),
+        Ok(NetworkFile::Short(accepted)) => Ok(Explanation {
+            text: tell_accepted(alloc, &accepted)?,
+            is_accepted: true,
+        }),
+        Err(RunFault::Plan(refusal)) => explain_short(alloc, text, refusal),
         Err(fault) => Ok(Explanation {
             text: tell_refusal(alloc, text, &fault)?,
             is_accepted: false,

@@ -31,7 +31,11 @@ pub enum Offender {
 }
 
 /// An item of a list, if there is one.
-fn push_item(found: &mut Vec<Offender>, list: Word, n: Option<usize>) -> Result<(), Memory>
+pub(crate) fn push_item(
+    found: &mut Vec<Offender>,
+    list: Word,
+    n: Option<usize>,
+) -> Result<(), Memory>
     ensures { OnOk result (found.new.items ≡ found.old.items ++ of_item list n) }
 {
     if let Some(n) = n {
@@ -41,7 +45,7 @@ fn push_item(found: &mut Vec<Offender>, list: Word, n: Option<usize>) -> Result<
 }
 
 /// A field of an item of a list, if there is such an item.
-fn push_part(
+pub(crate) fn push_part(
     found: &mut Vec<Offender>,
     list: Word,
     field: Word,

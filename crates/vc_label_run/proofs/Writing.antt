@@ -1,22 +1,25 @@
 -- What was written, together.
-use Rattle.std.proofs.Common.{◌≡◌, ℕ, Bool, List, Option, Result, Ok, Err, sym, subst}
-use Rattle.std.specs.Bool.{⊤}
-use Rattle.vc_label_run.specs.Labels.{IsAnswer, Labels, WritesFor}
-use Rattle.vc_text.specs.Streams.{Writes}
+use Rattle.std.proofs.Common.{◌≡◌, ℕ, List, Option, Result, Ok, Err, refl}
+use Rattle.vc_label_run.specs.Labels.{IsWholeFile, Labels}
+use Rattle.vc_label_text.specs.Labelled.{IsRefusal}
+use Rattle.vc_label_text.specs.declared.refused.LabelRefused.{LabelRefused}
+use Rattle.vc_label_text.specs.declared.refused.LabelRefused.TheVariants as refused
+use Rattle.vc_text.specs.Faults.{fault_of}
+use Rattle.vc_text.specs.Streams.{IsAllOf, Writes}
 use Rattle.vc_text.specs.declared.fault.RunFault.{RunFault}
 use Rattle.vc_text.specs.declared.fault.RunFault.TheVariants.{Write, Memory}
 
--- a text could not be written
-pub not_written : (old new : Option (List ℕ)) (text : List ℕ) (wanted : Bool) (fault : RunFault) → Writes old new text (Err fault) →
-    WritesFor old new text wanted (Err fault)
-not_written old new text wanted Write w = w
-not_written old new text wanted Memory w = w
-not_written old new text wanted x w = absurd w
-
 -- what is written of a network
-pub labels_of : (known old new : Option (List ℕ)) (is_labelled : Bool) (text : List ℕ) (result : Result Bool RunFault) → IsAnswer known is_labelled text →
-    WritesFor old new text is_labelled result → Labels known old new result
-labels_of known old new is_labelled text (Ok answer) a w = (text, subst (λ b. IsAnswer known b text) (sym w.0) a, w.1)
-labels_of known old new is_labelled text (Err Write) a w = (is_labelled, text, a, w)
-labels_of known old new is_labelled text (Err Memory) a w = (tt, w)
-labels_of known old new is_labelled text (Err x) a w = absurd w
+pub labels_of : (known old new : Option (List ℕ)) (made : List ℕ) (result : Result (Unit {0}) RunFault) → IsWholeFile known made → Writes old new made result →
+    Labels known old new result
+labels_of known old new made (Ok u) is w = (made, is, w)
+labels_of known old new made (Err Write) is w = (made, is, w)
+labels_of known old new made (Err Memory) is w = (tt, w)
+labels_of known old new made (Err x) is w = absurd w
+
+-- nothing is made of a text
+pub labels_none : (known old : Option (List ℕ)) (text : List ℕ) (why : LabelRefused) → IsAllOf known text → IsRefusal text why → Labels known old old (Err (fault_of why))
+labels_none known old text (refused.Text why) all is = ((text, all, is), refl)
+labels_none known old text (refused.Network why) all is = ((text, all, is), refl)
+labels_none known old text (refused.Plan why) all is = ((text, all, is), refl)
+labels_none known old text refused.Memory all is = (tt, refl)

@@ -1,3 +1,4 @@
 pub mod CauseText
 pub mod Labelled
 pub mod Private
+pub mod Short

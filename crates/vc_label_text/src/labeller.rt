@@ -1,10 +1,12 @@
 //! The whole file of a network file without labelling.
 ghost use Rattle.std.specs.Prelude.{IfErr, IfOk, Ok};
 ghost use Rattle.vc_reader.specs.Bare.{ReadsBare};
+ghost use Rattle.vc_reader.specs.NetworkText.{Reads};
 ghost use Rattle.vc_label_text.specs.Labelled.{IsLabelledText, IsRefusal};
 
 use crate::cause::LabelCause;
 use crate::channels::{WholeChannel, node_name, whole_channels};
+use crate::file::WholeFile;
 use crate::judge::is_labelling;
 use crate::nodes::{has_same_nodes, parse};
 use crate::refused::LabelRefused;
@@ -92,15 +94,16 @@ fn written(alloc: Global, text: &[u8], bare: &BareNetwork) -> Result<Vec<u8>, Un
     Ok(whole.text(alloc)?)
 }
 
-/// The text that was made, if it is a file that `check` accepts, with ranks of ports, and a labelling of the network that was read.
+/// The file that was made, if `check` accepts it, with ranks of ports, and it is a labelling of the network that was read.
 fn judged(
     alloc: Global,
     text: &[u8],
     bare: &BareNetwork,
     made: Vec<u8>,
-) -> Result<Vec<u8>, LabelRefused>
+) -> Result<WholeFile, LabelRefused>
     requires { ReadsBare text.now (Ok bare.now) }
-    ensures made { IfOk result (λ made. IsLabelledText text.now made.items) }
+    ensures made { IfOk result (λ whole. IsLabelledText text.now whole.text.items) }
+    ensures network { IfOk result (λ whole. Reads whole.text.items (Ok whole.network)) }
     ensures refused { IfErr result (IsRefusal text.now) }
 {
     let plan = match read_network(alloc, made.as_slice()) {
@@ -116,18 +119,22 @@ fn judged(
     }
     let is_same = has_same_nodes(alloc, text, made.as_slice())?;
     if is_same && is_labelling(bare, accepted.plan()) {
-        Ok(made)
+        Ok(WholeFile {
+            text: made,
+            network: accepted,
+        })
     } else {
         Err(LabelRefused::Network(LabelCause::Unlabelled))
     }
 }
 
-/// The network file of a file without labelling: with the same nodes, and with the switches, wires and channels of what was read. It is one
+/// The whole file of a file without labelling: with the same nodes, and with the switches, wires and channels of what was read. It is one
 /// that `check` accepts, and its ports have ranks, so its packets never come to wait for one another in a circle. Otherwise the text is
 /// refused for what is wrong with it, for a channel of no end, two ends, no kind or no way, for too many wires, for what `check` finds in
 /// the file that was made, or because there is no memory.
-pub fn label_text(alloc: Global, text: &[u8]) -> Result<Vec<u8>, LabelRefused>
-    ensures made { IfOk result (λ made. IsLabelledText text.now made.items) }
+pub fn whole_file(alloc: Global, text: &[u8]) -> Result<WholeFile, LabelRefused>
+    ensures made { IfOk result (λ whole. IsLabelledText text.now whole.text.items) }
+    ensures network { IfOk result (λ whole. Reads whole.text.items (Ok whole.network)) }
     ensures refused { IfErr result (IsRefusal text.now) }
 {
     let bare = match read_bare(alloc, text) {
@@ -138,5 +145,16 @@ pub fn label_text(alloc: Global, text: &[u8]) -> Result<Vec<u8>, LabelRefused>
         Ok(made) => judged(alloc, text, &bare, made),
         Err(Unmade::Network(cause)) => Err(LabelRefused::Network(cause)),
         Err(Unmade::Memory) => Err(LabelRefused::Memory),
+    }
+}
+
+/// The text of the whole file of a file without labelling, which is refused as [`whole_file`] refuses it.
+pub fn label_text(alloc: Global, text: &[u8]) -> Result<Vec<u8>, LabelRefused>
+    ensures made { IfOk result (λ made. IsLabelledText text.now made.items) }
+    ensures refused { IfErr result (IsRefusal text.now) }
+{
+    match whole_file(alloc, text) {
+        Ok(WholeFile { text, network: _ }) => Ok(text),
+        Err(refused) => Err(refused),
     }
 }

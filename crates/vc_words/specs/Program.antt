@@ -8,6 +8,8 @@ use Rattle.vc_label_run.specs.Labels.{Labels}
 use Rattle.vc_draw.specs.Graph.{WritesGraph}
 use Rattle.vc_core.specs.declared.close.Close.{Close}
 use Rattle.vc_text.specs.OneNode.{ReadsAs}
+use Rattle.vc_plan.specs.declared.plan.Plan.{Plan as Network}
+use Rattle.vc_text.specs.declared.schedule.Schedule.{Schedule}
 use Rattle.vc_text.specs.declared.schedule.Schedule.TheVariants.{InTurn}
 use Rattle.vc_text.specs.RunText.{RunText, WritesRunBy}
 use Rattle.vc_text.specs.Streams.{Writes}
@@ -21,7 +23,7 @@ use Rattle.vc_text.specs.declared.fault.RunFault.TheVariants.{Memory, Read}
 use Rattle.vc_draw.specs.State.{IsStateDrawing}
 use Rattle.vc_stats.specs.Texts.{IsEventsText, IsStatsText, IsTrafficJson}
 use Rattle.vc_trace.specs.Replay.{Replays}
-use Rattle.vc_trace.specs.TraceText.{IsTracedText}
+use Rattle.vc_trace.specs.TraceText.{IsTracedText, WritesTraceBy}
 use Rattle.vc_trace.specs.declared.replayed.Replayed.{Replayed}
 use Rattle.vc_trace.specs.declared.replayed.Replayed.TheVariants.{NoEvents}
 use Rattle.vc_words.specs.declared.account.Account.{Account}
@@ -70,11 +72,9 @@ FindsDeadlock known old new status =
     ((free : Bool) × TellsDeadlock known old new (Ok free) × (status ≡ status_of_freedom free))
     ⊎ ((fault : RunFault) × (mid : Option (List ℕ)) × TellsDeadlock known old mid (Err fault) × TellsFault mid new fault status)
 
--- it is labelled, and its whole file is written, or it is told why it can't be
+-- it is labelled, and its whole file is written, or a fault of it is told
 abbrev pub LabelsNetwork : Option (List ℕ) → Option (List ℕ) → Option (List ℕ) → ℕ → Type 0
-LabelsNetwork known old new status =
-    ((is_labelled : Bool) × Labels known old new (Ok is_labelled) × (status ≡ status_of_acceptance is_labelled))
-    ⊎ ((fault : RunFault) × (mid : Option (List ℕ)) × Labels known old mid (Err fault) × TellsFault mid new fault status)
+LabelsNetwork = WritesOrTells Labels
 
 -- it is written as Graphviz text: as its plan says, or with its state after at most so many events, or a fault of it is told
 abbrev pub DrawsNetwork : Option ℕ → Option (List ℕ) → Option (List ℕ) → Option (List ℕ) → ℕ → Type 0
@@ -96,10 +96,15 @@ abbrev pub IsThreadTextOf : Account → (is_why : Bool) → RunText
 IsThreadTextOf (Counts form) is_why = IsEventsText form is_why
 IsThreadTextOf account is_why = IsTextOf account is_why
 
+-- such a text of a run event by event is written; events are written as they happen
+abbrev pub WritesStep : Account → (is_why : Bool) → (Result Network RunFault → Type 0) → Option (List ℕ) → Option (List ℕ) → Schedule → ℕ → Result Close RunFault → Type 0
+WritesStep Events is_why = WritesTraceBy is_why
+WritesStep account is_why = WritesRunBy (IsTextOf account is_why)
+
 -- it is run event by event, as the options say, or a fault of it is told
 abbrev pub StepsNetwork : StepOptions → Account → Option (List ℕ) → Option (List ℕ) → Option (List ℕ) → ℕ → Type 0
 StepsNetwork options account known old new status =
-    let Steps = WritesRunBy (IsTextOf account options.is_why) (ReadsAs options.is_together known) in
+    let Steps = WritesStep account options.is_why (ReadsAs options.is_together known) in
     ((close : Close) × Steps old new options.schedule options.limit (Ok close) × (status ≡ status_of_end close))
     ⊎ ((fault : RunFault) × (mid : Option (List ℕ)) × Steps old mid options.schedule options.limit (Err fault) × TellsFault mid new fault status)
 

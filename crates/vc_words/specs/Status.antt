@@ -9,7 +9,7 @@ use Rattle.vc_reader.specs.declared.refused.ReadRefused.TheVariants as read
 use Rattle.vc_trace.specs.declared.replayed.Replayed.{Replayed}
 use Rattle.vc_trace.specs.declared.replayed.Replayed.TheVariants.{Ended, Refused, NoEvents}
 use Rattle.vc_text.specs.declared.fault.RunFault.{RunFault}
-use Rattle.vc_text.specs.declared.fault.RunFault.TheVariants.{Read, Write, Text, Plan, Threads, Memory}
+use Rattle.vc_text.specs.declared.fault.RunFault.TheVariants.{Read, Write, Text, Network, Plan, Threads, Memory}
 
 -- 2 for a text or a plan that is refused, but 4 when out of memory
 abbrev pub status_of_text : ReadRefused → ℕ
@@ -20,11 +20,12 @@ abbrev pub status_of_check : CheckRefused → ℕ
 status_of_check check.Memory = 4
 status_of_check why = 2
 
--- 4 for threads that gave no report, and 6 for the streams
+-- 2 for a network that can't be labelled, 4 for threads that gave no report, and 6 for the streams
 abbrev pub status_of_fault : RunFault → ℕ
 status_of_fault Read = 6
 status_of_fault Write = 6
 status_of_fault (Text refused) = status_of_text refused
+status_of_fault (Network cause) = 2
 status_of_fault (Plan refusal) = status_of_check refusal.why
 status_of_fault (Threads why) = 4
 status_of_fault Memory = 4

@@ -16,7 +16,8 @@ const VERSION: &str = "1.1.0";
 
 /// The end of the program's help.
 const PROGRAM_HELP: &str = "\
-Each subcommand reads one network, as JSON (docs/FORMAT.md), from FILE, or from standard input if there is no FILE. It writes to standard output.
+Each subcommand reads one network, as JSON (docs/FORMAT.md), from FILE, or from standard input if there is no FILE. A file in the short form is \
+read as the whole file that `label` makes of it. All commands write to standard output.
 
 Exit status: 0 done, accepted, free, drawn; 1 quiet, cycle; 2 refused; 3 a limit was reached; 4 no memory or no thread; 5 a bad command line; 6 a stream failed.
 
@@ -57,7 +58,7 @@ kinds and ends of channels, may be left out, too. Prints the whole file, which `
 
 Exit status: 0 labelled; 2 refused; 4 no memory; 5 a bad command line; 6 a stream failed.
 
-Example: vcnet label examples/short/hello.json | vcnet step";
+Example: vcnet label examples/short/hello.json";
 
 /// The end of the help of `draw`.
 const DRAW_HELP: &str = "\
@@ -84,9 +85,9 @@ Example: vcnet replay --events examples/hello.trace examples/hello.json";
 const STEP_HELP: &str = "\
 Prints what each channel carried, and how the run ended: `end done` if every process ended, `end quiet` if nothing can happen any more, \
 `end limit` if more events can happen. A number over one wire takes some 47 events; give a long run a greater --limit. With --why a line for \
-each part of a process that waits or has stopped, and for each packet, follows. With --trace the events come first, one a line. With --stats \
-counts follow the traffic. A network can end in more than one way if an ALT has several guards or packets wait in a circle: each --schedule N \
-draws another run, guards and links too.
+each part of a process that waits or has stopped, and for each packet, follows. With --trace the events come first, one a line, and are \
+written as they happen. With --stats counts follow the traffic. A network can end in more than one way if an ALT has several guards or packets \
+wait in a circle: each --schedule N draws another run, guards and links too.
 
 Exit status: 0 done; 1 quiet; 2 refused; 3 limit; 4 no memory; 5 a bad command line; 6 a stream failed.
 
@@ -97,7 +98,7 @@ const RUN_HELP: &str = "\
 Starts a thread for each node and each switch. Prints what each channel carried, and how the run ended: `end done` if every process \
 ended, `end limit` if the threads used up their turns. A network that is quiet ends with `end limit`, too. With --why a line for each part of \
 a process that waits or has stopped, and for each packet, follows. With --trace the events come first, one a line, in an order in which they \
-could have been made one after another. With --trace or --stats the run keeps its events until all threads have ended, 32 bytes each.
+could have been made one after another. With --trace the run keeps its events until all threads have ended, 32 bytes each.
 
 Exit status: 0 done; 2 refused; 3 limit; 4 no memory or no thread; 5 a bad command line; 6 a stream failed.
 

@@ -3,10 +3,9 @@ ghost use Rattle.std.specs.Prelude.{◌≡◌, List, Some, None};
 ghost use Rattle.vc_text.specs.declared.fault.RunFault.TheVariants.{Memory as OutOfMemory};
 ghost use Rattle.clap.specs.Walk.{Text, texts};
 ghost use Rattle.vc_text.specs.OneNode.{ReadsAs};
-ghost use Rattle.vc_text.specs.RunText.{WritesRunBy};
 ghost use Rattle.vc_text.specs.ThreadsText.{WritesThreads};
 ghost use Rattle.vc_words.specs.CommandLine.{faults, IsFaultOf};
-ghost use Rattle.vc_words.specs.Program.{ChecksNetwork, DrawsNetwork, ExplainsNetwork, FindsDeadlock, Does, DoesFile, IsTextOf, IsThreadTextOf, LabelsNetwork, ReplaysFile, ReplaysNetwork, Runs, RunsNetwork, StepsNetwork, Tells, TellsFault, TellsLine, no_text_fault};
+ghost use Rattle.vc_words.specs.Program.{ChecksNetwork, DrawsNetwork, ExplainsNetwork, FindsDeadlock, Does, DoesFile, IsThreadTextOf, LabelsNetwork, ReplaysFile, ReplaysNetwork, Runs, RunsNetwork, StepsNetwork, Tells, TellsFault, TellsLine, WritesStep, no_text_fault};
 ghost use Rattle.vc_words.specs.Status.{status_of_acceptance as status_for_acceptance, status_of_check as status_for_check, status_of_text as status_for_text, status_of_fault, status_of_freedom as status_for_freedom, status_of_end, status_of_replay as status_for_replay};
 
 use crate::account::Account;
@@ -81,6 +80,7 @@ fn status_of(fault: &RunFault) -> u8
 {
     match fault {
         RunFault::Text(refused) => status_of_text(refused),
+        RunFault::Network(_) => REFUSED,
         RunFault::Plan(refusal) => status_of_check(&refusal.why),
         RunFault::Threads(_) | RunFault::Memory => NO_MEMORY,
         RunFault::Read | RunFault::Write => BAD_STREAM,
@@ -197,7 +197,7 @@ fn label_by<R: Read, W: Write>(alloc: Global, reader: &mut R, writer: &mut W) ->
         result }
 {
     match run_label(alloc, reader, writer) {
-        Ok(is_labelled) => status_of_acceptance(is_labelled),
+        Ok(()) => DONE,
         Err(fault) => tell_fault(alloc, fault, writer),
     }
 }
@@ -256,7 +256,7 @@ fn write_step<R: Read, W: Write>(
     account: Account,
     meter: &Meter,
 ) -> Result<Close, RunFault>
-    ensures { WritesRunBy (IsTextOf account options.is_why)
+    ensures { WritesStep account options.is_why
         (ReadsAs options.is_together (R.remaining reader.old))
         (W.contents writer.old) (W.contents writer.new) options.schedule options.limit result }
 {
