@@ -209,8 +209,10 @@ impl<L: ActLog> WorkerState<L> {
         requires can { HoldsAt (CanTake self.old.actor) self.old.ins.items k }
         requires least { TakesLeast self.old.actor self.old.ins.items (Some k) }
         requires room { L.has_room self.old.log }
-        ensures turn { IfOk result (TakesTurn L.holds (worker_state self.old) (worker_state self.new)) }
-        ensures stop { IfErr result (StopsFor L.holds (worker_state self.old) (worker_state self.new)) }
+        ensures turn { IfOk result
+            (TakesTurn L.holds (worker_state self.old) (worker_state self.new)) }
+        ensures stop { IfErr result
+            (StopsFor L.holds (worker_state self.old) (worker_state self.new)) }
         ensures ends { SameLinks (worker_state self.old) (worker_state self.new) }
     {
         let word = self.words.next_word();
@@ -225,8 +227,10 @@ impl<L: ActLog> WorkerState<L> {
         requires low { All (λ o. o.0 < 32) self.old.outs.ends.items }
         requires room { L.has_room self.old.log }
         requires rests { IsRested self.old.actor rested }
-        ensures turn { IfOk result (TakesTurn L.holds (worker_state self.old) (worker_state self.new)) }
-        ensures stop { IfErr result (StopsFor L.holds (worker_state self.old) (worker_state self.new)) }
+        ensures turn { IfOk result
+            (TakesTurn L.holds (worker_state self.old) (worker_state self.new)) }
+        ensures stop { IfErr result
+            (StopsFor L.holds (worker_state self.old) (worker_state self.new)) }
         ensures ends { SameLinks (worker_state self.old) (worker_state self.new) }
     {
         let Some(stamp) = next_stamp(self.clock, None) else {
@@ -262,8 +266,10 @@ impl<L: ActLog> WorkerState<L> {
         requires ins { Distinct (in_links self.old.ins.items) }
         requires low { All (λ o. o.0 < 32) self.old.outs.ends.items }
         requires rests { IsRested self.old.actor rested }
-        ensures turn { IfOk result (TakesTurn L.holds (worker_state self.old) (worker_state self.new)) }
-        ensures stop { IfErr result (StopsFor L.holds (worker_state self.old) (worker_state self.new)) }
+        ensures turn { IfOk result
+            (TakesTurn L.holds (worker_state self.old) (worker_state self.new)) }
+        ensures stop { IfErr result
+            (StopsFor L.holds (worker_state self.old) (worker_state self.new)) }
         ensures ends { SameLinks (worker_state self.old) (worker_state self.new) }
     {
         if self.log.make_room().is_err() {
