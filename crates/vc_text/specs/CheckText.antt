@@ -45,7 +45,7 @@ abbrev pub ReadsText : List ℕ → Result Network RunFault → Type 0
 ReadsText text (Err Memory) = ⊤
 ReadsText text answer = ReadsWhole text answer ⊎ (IsShort text × ReadsShort text answer)
 
--- the reader's text is read so, unless the reader fails; where it is not known, the network is accepted or its plan refused all the same
+-- the reader's text is read so, unless the reader fails; if it is not known, the network is accepted or its plan refused all the same
 abbrev pub ReadsAccepted : Option (List ℕ) → Result Network RunFault → Type 0
 ReadsAccepted known (Err Read) = ⊤
 ReadsAccepted known (Err Memory) = ⊤

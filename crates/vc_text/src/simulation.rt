@@ -77,8 +77,8 @@ impl Simulation {
         ensures made { IfOk result (λ had. progress.new.made ≡ counted had progress.old.made) }
         ensures runs { OnOk result
             (LeadsOnSoFar K.holds self.old events.old progress.old self.new events.new progress.new) }
-        ensures stops { OnErr result
-            (Stops K.holds K.left (progress.old.made + 1) self.old events.old progress.old events.new) }
+        ensures stops { OnErr result (Stops K.holds K.left (progress.old.made + 1)
+            self.old events.old progress.old events.new) }
         ensures still { result ≡ Ok false → (p : Plan) →
             IsNetworkOf p (state_of self.old.network) →
             state_of self.new.network ≡ state_of self.old.network }
@@ -109,8 +109,8 @@ impl Simulation {
         ensures made { IfOk result (λ had. progress.new.made ≡ counted had progress.old.made) }
         ensures runs { OnOk result
             (LeadsOnSoFar K.holds self.old events.old progress.old self.new events.new progress.new) }
-        ensures stops { OnErr result
-            (Stops K.holds K.left (progress.old.made + 1) self.old events.old progress.old events.new) }
+        ensures stops { OnErr result (Stops K.holds K.left (progress.old.made + 1)
+            self.old events.old progress.old events.new) }
         ensures still { result ≡ Ok false → (p : Plan) →
             IsNetworkOf p (state_of self.old.network) →
             state_of self.new.network ≡ state_of self.old.network }

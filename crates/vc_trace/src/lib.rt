@@ -1,7 +1,7 @@
 //! The trace of a run: its events as text, a line each.
 //!
 //! The layer above knows that a traced run writes the text of its events and then its traffic (`specs/TraceText`, `specs/EventText`), or
-//! a prefix of that if the writer failed, over any reader and any writer that tell their bytes. The text goes through a buffer of
+//! a prefix of that if the writer failed, over any reader and any writer whose bytes are known. The text goes through a buffer of
 //! 4,096 bytes, so it takes no memory of its own. A run event by event writes each event as it happens: if memory runs out, the lines of
 //! the events so far have been written.
 //!

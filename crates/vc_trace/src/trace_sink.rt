@@ -56,7 +56,8 @@ impl<'out, 'plan, W: Write> TraceSink<'out, 'plan, W> {
             (W.contents self.entry.writer.now) (W.contents self.exit.0.now)
             self.entry.piece.items result }
         ensures fails { self.entry.has_failed ≡ true → result ≡ WriterFailed }
-        ensures same { self.entry.has_failed ≡ true → self.exit.0.now ≡ self.entry.writer.now }
+        ensures same { self.entry.has_failed ≡ true →
+            self.exit.0.now ≡ self.entry.writer.now }
     {
         let TraceSink {
             writer,
