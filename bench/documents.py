@@ -5,7 +5,7 @@
 - a crate that README.md or docs/ names as `vc_..` and that crates.txt has not;
 - a sentence of theirs with over 40 words;
 - a name between backticks (a function, a type, a clause, an edit) that no source, script, example or file has; words in capitals stand for
-  something else, and docs/FORMAT.md is held by bench/format.py;
+  something else, and bench/format.py holds docs/FORMAT.md, REFUSALS.md and COMMANDS.md;
 - a piece of Rattle in docs/CALLING.md that does not stand so in crates/vc_uses;
 - a script of bench/ that does not say with which kit it was made, as README.md names it.
 
@@ -64,7 +64,7 @@ def strange_code(path, text):
 def names():
     """The words of all sources, scripts and networks, and of the names of files."""
     crates = [it for kind in ("src", "specs", "proofs") for it in glob.glob(f"{ROOT}/crates/*/{kind}/**/*", recursive=True)]
-    scripts = [*glob.glob(f"{ROOT}/bench/*"), *glob.glob(f"{ROOT}/examples/**/*", recursive=True), f"{ROOT}/crates.txt", f"{ROOT}/.ci/run"]
+    scripts = [*glob.glob(f"{ROOT}/bench/*"), *glob.glob(f"{ROOT}/tools/*"), *glob.glob(f"{ROOT}/examples/**/*", recursive=True), f"{ROOT}/crates.txt", f"{ROOT}/.ci/run"]
     edits = [*glob.glob(f"{ROOT}/crates/*/must-fail/*"), *glob.glob(f"{ROOT}/bench/**/*", recursive=True), *glob.glob(f"{ROOT}/docs/*")]
     found = {word for it in [*crates, *scripts, *edits] for word in re.findall(r"\w+", it)}
     for it in crates + scripts:
@@ -119,7 +119,7 @@ def main():
         text = text_of(path)
         told += [*missing_files(path, text), *missing_crates(path, text)]
         told += [*missing_specs(path, text), *lost_modules(path, text), *long_sentences(path, text)]
-        if not path.endswith("FORMAT.md"):
+        if not path.endswith(("FORMAT.md", "REFUSALS.md", "COMMANDS.md")):
             told += unknown_names(path, text, known)
         if path.endswith("CALLING.md"):
             told += strange_code(path, text)

@@ -1,5 +1,5 @@
 #!/usr/bin/env python3
-"""Holds the examples of docs/FORMAT.md, and the blocks of docs/TUTORIAL.md, against examples/: bench/format.py. It prints a line for each of
+"""Holds the examples of docs/FORMAT.md, REFUSALS.md and COMMANDS.md, and the blocks of docs/TUTORIAL.md, against examples/: bench/format.py. It prints a line for each of
 these, and fails where there is one:
 
 - a row of a table whose first column is "Example": a piece in it that its network's file has not, words with which examples/index.txt
@@ -16,10 +16,10 @@ import re
 import sys
 
 ROOT = os.path.dirname(os.path.dirname(os.path.abspath(__file__)))
-PAGE = "docs/FORMAT.md"
+PAGES = ["docs/FORMAT.md", "docs/REFUSALS.md", "docs/COMMANDS.md"]
 TUTORIAL = "docs/TUTORIAL.md"
 PRINTED = re.compile(r"(channel|refused|cycle|free|graph|accepted|event|end)\b")
-# What the examples of the page must show: words of processes, operators, relations, connectives, bytes.
+# What the examples of the pages must show: words of processes, operators, relations, connectives, bytes.
 WORDS = '"skip" "stop" "set" "out" "in" "stopch" "seq" "par" "if" "while" "for" "alt" "+" "-" "*" "/" "\\\\" "size" "=" "<>" "<" ">" "<=" ">="'
 WORDS += ' "and" "or" "not" true false "hex" "text" "fill" "table" "delete" "random" "portal" "vars" "vlink" "way" "node" "wires"'
 
@@ -93,13 +93,13 @@ def not_shown(rows, printed):
 
 
 def main():
-    page, printed = text_of(PAGE), outputs()
-    rows = rows_of(page)
+    printed, pages = outputs(), [text_of(it) for it in PAGES]
+    rows = [row for page in pages for row in rows_of(page)]
     told = [fault for cells in rows for fault in wrong_row(cells, printed)]
-    told += [*wrong_blocks(page, printed), *not_shown(rows, printed)]
-    taught = [*wrong_blocks(text_of(TUTORIAL), printed)]
-    print("\n".join([*told, f"{PAGE}: {len(told)} faults", *taught, f"{TUTORIAL}: {len(taught)} faults"]))
-    return 1 if told or taught else 0
+    told += [fault for page in [*pages, text_of(TUTORIAL)] for fault in wrong_blocks(page, printed)]
+    told += not_shown(rows, printed)
+    print("\n".join([*told, f"{', '.join([*PAGES, TUTORIAL])}: {len(told)} faults"]))
+    return 1 if told else 0
 
 
 if __name__ == "__main__":

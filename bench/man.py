@@ -17,7 +17,9 @@ TEXT = r'"((?:[^"\\]|\\[\s\S])*)"'
 # Which numbers an option takes, by what reads them.
 NUMBERS = {"counts()": "0 to 1,000,000,000", "value_parser!(u32)": "0 to 4,294,967,295"}
 FILES = [
-    ("docs/FORMAT.md", "The network file with examples, every refusal, and what is printed."),
+    ("docs/FORMAT.md", "The network file, with examples."),
+    ("docs/REFUSALS.md", "Every refusal, with an example, and what explain prints."),
+    ("docs/COMMANDS.md", "What each command prints, and the exit statuses."),
     ("docs/network.schema.json", "The form of a network file as a JSON schema, for an editor."),
     ("examples/", "Networks to begin with, each with what is printed for it."),
 ]

@@ -1,12 +1,14 @@
 #!/usr/bin/env python3
-"""Tells what one must believe for a promise: bench/reading.py [--write].
+"""Shows what one must believe for a promise: bench/reading.py [CALL | --write].
+
+With the name of a call it prints the definitions that the call rests on, with their comments, lowest crate first.
 
 From the clauses of a public function it follows each name to its definition in specs/, and the names in that, and so on. It counts the
 lines of those definitions, without imports, comments and blank lines. Types that the code declares are not counted, and not those of the
 toolchain. What only a view leads to is counted apart: how a value of the code is seen as one of the definitions nobody has to believe
-(docs/READING.md). What an accepted plan is, is counted with `check`, which alone makes one. It also counts the lines of specs/ outside
+(docs/PROMISES.md). What an accepted plan is, is counted with `check`, which alone makes one. It also counts the lines of specs/ outside
 specs/Private that no public function's clauses reach, and the names that have several definitions. It compares what it finds with that
-page and fails where a figure there is exceeded; with --write it writes the page's tables anew. A name counts where it stands, so the
+page and fails if a figure there is exceeded; with --write it writes the page's table anew. A name counts where it stands, so the
 figures are a little too large.
 
 Made with rattle-kit-13f, logic dac8208d650f15bf.
@@ -17,7 +19,7 @@ import re
 import sys
 
 ROOT = os.path.dirname(os.path.dirname(os.path.abspath(__file__)))
-PAGE = f"{ROOT}/docs/READING.md"
+PAGE = f"{ROOT}/docs/PROMISES.md"
 # The promises, in the order in which one reads: the function, and the file that has it. Those before `check` are of a plan that it accepted.
 PROMISES = [
     ("replay", "vc_core/src/replays.rt"),
@@ -50,20 +52,26 @@ class Module:
 
     def __init__(self, path):
         self.path = os.path.relpath(path, f"{ROOT}/crates")
-        self.lines, self.names = {}, {}
-        now, depth = None, 0
+        self.lines, self.names, self.comments, self.head = {}, {}, {}, []
+        now, depth, comment = None, 0, []
         for line in open(path, encoding="utf-8"):
             line = line.rstrip()
             if line.startswith("use ") or line.startswith("pub use "):
                 self.names.update(imports(line.removeprefix("pub ")[4:]))
-            elif line.strip() and not line.strip().startswith("--"):
+                # what comes before the imports is of the whole file
+                self.head, comment = self.head + comment, []
+            elif line.strip().startswith("--"):
+                comment.append(line)
+            elif line.strip():
                 indent = len(line) - len(line.lstrip())
                 if indent == 0:
                     # the definitions of a block stand two columns in
                     depth = 2 if BLOCKS & set(line.split()[:2]) else 0
                 head = HEAD.match(line)
-                if indent == depth and head:
+                if indent == depth and head and head[1] != now:
                     now = head[1]
+                    self.comments.setdefault(now, comment)
+                    comment = []
                 self.lines.setdefault(now, []).append(line)
 
 
@@ -183,28 +191,36 @@ def several(rows):
 
 def page(rows, left):
     names, many = several(rows)
-    out = [f"Lines of specs/ outside specs/Private that no public promise needs: {left}.", ""]
-    out += [f"Names with several definitions: {many}, of the {names} that the promises rest on.", ""]
-    out += ["| Promise | Lines to believe | Files | Lines with those above | Lines of views |", "|---|---|---|---|---|"]
+    out = ["| Call | Lines to believe | Files | Lines with those above | Lines of views |", "|---|---|---|---|---|"]
     out += [f"| `{it.function}` | {it.lines} | {it.files} | {sum(it.together.values())} | {it.views} |" for it in rows]
-    for it in rows:
-        more = by_file({k: n for k, n in it.believed.items() if k not in it.before})
-        out += ["", f"### `{it.function}`", "", "| File | Lines to believe |", "|---|---|"]
-        out += [f"| {path} | {count} |" for path, count in more]
-    views = {k: n for it in rows for k, n in it.seen_by.items() if k not in rows[-1].together}
-    out += ["", "### Views", "", "| File | Lines |", "|---|---|"]
-    out += [f"| {path} | {count} |" for path, count in by_file(views)]
+    out += ["", f"Lines of specs/ outside specs/Private that no public promise needs: {left}."]
+    out += [f"Names with several definitions: {many}, of the {names} that the promises rest on."]
     return "\n".join(out) + "\n"
+
+
+def read_aloud(row, found):
+    """The definitions that a call rests on, with their comments, file by file."""
+    by_path = {it.path: it for it in found.values()}
+    for path, count in by_file(row.believed):
+        module = by_path[path]
+        print(f"\n== {path}: {count} lines", *module.head, sep="\n")
+        for name, lines in module.lines.items():
+            if (path, name) in row.believed:
+                print("", *module.comments.get(name, []), *lines, sep="\n")
 
 
 def main():
     found = modules()
     rows, left = table(found), stray(found)
-    mark = "<!-- made by bench/reading.py --write -->\n"
-    front, _, old = open(PAGE, encoding="utf-8").read().partition(mark)
+    asked = [it for it in rows if it.function in sys.argv[1:]]
+    if asked:
+        return read_aloud(asked[0], found)
+    mark, end = "<!-- made by bench/reading.py --write -->\n", "<!-- end -->\n"
+    front, _, rest = open(PAGE, encoding="utf-8").read().partition(mark)
+    old, _, after = rest.partition(end)
     if "--write" in sys.argv:
         with open(PAGE, "w", encoding="utf-8") as it:
-            it.write(front + mark + "\n" + page(rows, left))
+            it.write(front + mark + "\n" + page(rows, left) + "\n" + end + after)
         return 0
     told = {m[1]: int(m[2]) for m in re.finditer(r"^\| `(\w+)` \| (\d+) \|", old, re.M)}
     wrong = [f"{it.function}: {it.lines} lines, and the page says {told.get(it.function)}" for it in rows if it.lines > told.get(it.function, 0)]
