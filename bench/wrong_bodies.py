@@ -2,7 +2,7 @@
 """Looks at the edits: bench/wrong_bodies.py [--list].
 
 It prints a line for each of these, and fails if there is one: an edit whose first line does not say, after a `#` and in a sentence or two,
-what its wrong body does; an edit that the sources do not take; and an edit that docs/PROOF.md names and that is not there. With --list it
+what its wrong body does; an edit that the sources do not take; and an edit that docs/PROMISES.md names and that is not there. With --list it
 prints a table for each crate: its edits, what each one's wrong body does, and who tries it.
 
 An edit is lines `file: PATH`, `old: TEXT` and `new: TEXT`, in order. Its crate's sources take it if each old text is in its file once, after
@@ -16,7 +16,7 @@ import re
 import sys
 
 ROOT = os.path.dirname(os.path.dirname(os.path.abspath(__file__)))
-PAGE = f"{ROOT}/docs/PROOF.md"
+PAGE = f"{ROOT}/docs/PROMISES.md"
 REASON = re.compile(r"# ([A-Z`].*\.)\n")
 # Who tries the edits of a folder.
 TRIED = {"crates": "gate", "bench": "bench"}
@@ -90,7 +90,7 @@ def main():
     there = {f"{crate}/{name}" for crate, name, *_ in found}
     named = re.findall(r"`(vc_\w+/\w+)`", text_of(PAGE).split("## Wrong programs")[1])
     told = [f"{crate}/{name}: its first line does not say what it does" for crate, name, reason, _ in found if not reason]
-    told += [f"docs/PROOF.md: {it} is no edit" for it in named if it not in there]
+    told += [f"docs/PROMISES.md: {it} is no edit" for it in named if it not in there]
     told += untaken()
     if "--list" in sys.argv:
         print(table(found))

@@ -1,6 +1,5 @@
 -- A plain sentence for a network that can't be labelled, and what to change.
 use Rattle.std.specs.Prelude.{ℕ, List, [], ◌++◌, codes}
-use Rattle.vc_label_text.specs.declared.cause.ChannelEnd.{ChannelEnd}
 use Rattle.vc_label_text.specs.declared.cause.ChannelEnd.TheVariants.{Outputs, Inputs}
 use Rattle.vc_label_text.specs.declared.cause.LabelCause.{LabelCause}
 use Rattle.vc_label_text.specs.declared.cause.LabelCause.TheVariants.{Links, NoPath, NoEnd, TwoEnds, NoKind, Unlabelled}

@@ -2,9 +2,11 @@
 use Rattle.std.specs.Prelude.{◌≡◌, ◌≢◌, ℕ, ◌+◌, ◌-◌, ◌*◌, ◌≤◌, Bool, true, false, List, [], ◌++◌, length, take, codes, decimal, ◌⊎◌, Option, Some, Result, Ok, Err, ⊤}
 use Rattle.std.specs.Io.KnownBytes.{Appends}
 use Rattle.std.specs.List.{AllZip, flat_map}
+use Rattle.std.specs.Prelude.{IsUtf8}
+use Rattle.serde_json.specs.Data.{Data}
+use Rattle.serde_json.specs.Read as json
 use Rattle.vc_label_text.specs.Short.{IsShort}
 use Rattle.vc_plan.specs.declared.check_refused.CheckRefused.TheVariants as check
-use Rattle.vc_plan.specs.declared.check_refused.Refusal.{Refusal}
 use Rattle.vc_plan.specs.declared.plan.Plan.{Plan as Network}
 use Rattle.vc_plan.specs.declared.port.Port.{Port}
 use Rattle.vc_plan.specs.declared.vlink_length.VlinkLength.{VlinkLength}
@@ -22,6 +24,7 @@ use Rattle.vc_text.specs.declared.fault.RunFault.{RunFault}
 use Rattle.vc_text.specs.declared.fault.RunFault.TheVariants.{Read, Write, Text, Network as Unlabelled, Plan, Memory}
 use Rattle.vc_explain.specs.declared.offender.Offender.{Offender}
 use Rattle.vc_explain.specs.Causes.{cause_sentence}
+use Rattle.vc_explain.specs.Details.{detail}
 use Rattle.vc_explain.specs.Lengths.{lengths_text}
 use Rattle.vc_explain.specs.Offenders.{offenders, path_of}
 use Rattle.vc_explain.specs.Place.{byte_line, path_line}
@@ -53,14 +56,14 @@ text_place text n read.Memory = []
 abbrev pub places_text : List ℕ → List Offender → List ℕ
 places_text text found = flat_map (λ offender. path_line text (path_of offender)) found
 
--- The line of a refusal, a sentence for it, where it is, and the path of a packet that goes astray. A plan is refused where its file has
--- these offenders.
-abbrev pub refusal_told : List ℕ → ℕ → List Offender → RunFault → List ℕ
-refusal_told text n found (Text refused) = fault_text (Text refused) ++ text_sentence refused ++ newline ++ text_place text n refused
-refusal_told text n found (Unlabelled cause) = fault_text (Unlabelled cause) ++ cause_sentence cause ++ newline
-refusal_told text n found (Plan refusal) =
-    fault_text (Plan refusal) ++ plan_sentence refusal.why ++ newline ++ places_text text found ++ path_walked refusal.plan refusal.why
-refusal_told text n found fault = []
+-- The line of a refusal, a sentence for it, where it is, and the path of a packet that goes astray. A text that is JSON has this value,
+-- and a plan is refused for these parts of its file.
+abbrev pub refusal_told : List ℕ → ℕ → Data → List Offender → RunFault → List ℕ
+refusal_told text n d found (Text refused) = fault_text (Text refused) ++ text_sentence d refused ++ newline ++ text_place text n refused
+refusal_told text n d found (Unlabelled cause) = fault_text (Unlabelled cause) ++ cause_sentence cause ++ newline
+refusal_told text n d found (Plan refusal) =
+    fault_text (Plan refusal) ++ plan_sentence refusal.why ++ detail refusal.plan refusal.why ++ newline ++ places_text text found ++ path_walked refusal.plan refusal.why
+refusal_told text n d found fault = []
 
 -- a refusal, and not for want of memory
 abbrev pub IsRefusal : RunFault → Type 0
@@ -76,6 +79,15 @@ Has text (Plan refusal) found =
     ⊎ ((bare : BareNetwork) × IsShort text × ReadsBare text (Ok bare) × (found ≡ flat_map (in_short bare) (offenders refusal.plan refusal.why)))
 Has text fault found = ⊤
 
+-- a text that is JSON has this value
+abbrev pub HasValue : List ℕ → ReadRefused → Data → Type 0
+HasValue text read.Json d = ⊤
+HasValue text refused d = IsUtf8 text × (json.read text ≡ Some d)
+
+abbrev pub IsOf : List ℕ → RunFault → Data → Type 0
+IsOf text (Text refused) d = HasValue text refused d
+IsOf text fault d = ⊤
+
 -- what is told of an accepted network
 abbrev pub IsToldOfAccepted : Network → List ℕ → Type 0
 IsToldOfAccepted plan told =
@@ -85,7 +97,8 @@ IsToldOfAccepted plan told =
 -- text ends there.
 abbrev pub IsToldOfRefusal : List ℕ → RunFault → List ℕ → Type 0
 IsToldOfRefusal text fault told =
-    IsRefusal fault × ((n : ℕ) × (found : List Offender) × (n ≤ length text) × Has text fault found × (told ≡ refusal_told text n found fault))
+    IsRefusal fault
+    × ((n : ℕ) × (d : Data) × (found : List Offender) × (n ≤ length text) × IsOf text fault d × Has text fault found × (told ≡ refusal_told text n d found fault))
 
 -- what is told of a text, and whether its network is accepted
 abbrev pub IsTold : List ℕ → Bool → List ℕ → Type 0

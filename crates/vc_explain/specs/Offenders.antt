@@ -15,7 +15,7 @@ use Rattle.vc_plan.specs.declared.port.Wire.{Wire}
 use Rattle.vc_plan.specs.declared.vlink.End.{End}
 use Rattle.vc_plan.specs.declared.vlink.Vlink.{Vlink}
 use Rattle.vc_plan.specs.Limits.{depth_ok, ends_ok, parts_ok, random_ok, routes_ok, rows_ok, switch_links_ok, vars_ok, wire_ok}
-use Rattle.vc_plan.specs.Wires.{same_port}
+use Rattle.vc_plan.specs.Wires.{same_port, switch_at}
 use Rattle.vc_reader.specs.declared.path.Step.{Step}
 use Rattle.vc_reader.specs.declared.path.Step.TheVariants.{Field, Index}
 use Rattle.vc_reader.specs.declared.word.Word.{Word}
@@ -23,6 +23,7 @@ use Rattle.vc_reader.specs.declared.word.Word.TheVariants as word
 use Rattle.vc_explain.specs.declared.offence.Places.{Places}
 use Rattle.vc_explain.specs.declared.offender.Offender.{Offender}
 use Rattle.vc_explain.specs.declared.offender.Offender.TheVariants.{All, Item, Part, Place}
+use Rattle.vc_explain.specs.Details.{bad_row}
 use Rattle.vc_explain.specs.Misuses.{earlier_on_way, misuse}
 use Rattle.vc_explain.specs.Offences.{offence_of}
 
@@ -122,13 +123,18 @@ abbrev pub of_usage : ℕ → Option Places → List Offender
 of_usage node None = Part word.Nodes node word.Process ∷ []
 of_usage node (Some places) = Place places.first ∷ Place places.second ∷ []
 
+-- the row of a table that is at fault
+abbrev pub of_table : ℕ → Option ℕ → List Offender
+of_table switch None = Part word.Switches switch word.Table ∷ []
+of_table switch (Some row) = Place (Field word.Switches ∷ Index switch ∷ Field word.Table ∷ Index row ∷ []) ∷ []
+
 -- what a refusal names, in the order in which it is told
 abbrev pub offenders : Plan → CheckRefused → List Offender
 offenders plan (check.Limit word) = of_limit plan word
 offenders plan (check.PortTwice port) = of_spot port.spot ∷ of_port plan.wires port
 offenders plan (check.PortMissing port) = of_spot port.spot ∷ []
 offenders plan (check.BlockTwice node block) = Item word.Nodes node ∷ of_block plan.vlinks node block
-offenders plan (check.Table switch fault) = Part word.Switches switch word.Table ∷ []
+offenders plan (check.Table switch fault) = of_table switch (bad_row plan switch (switch_at plan switch))
 offenders plan (check.NoInterval path) = of_path path
 offenders plan (check.WrongEnd path) = of_path path
 offenders plan (check.StackEmpty path) = of_path path

@@ -1,5 +1,8 @@
 -- A plain sentence for each refusal, and what to change.
-use Rattle.std.specs.Prelude.{ℕ, ◌==◌, ◌&&◌, nat_lt, Bool, true, false, cond, List, [], length, slice_get, codes, Option, Some}
+use Rattle.std.specs.Prelude.{ℕ, ◌-◌, nat_lt, Bool, true, false, if◌then◌else◌, List, [], ◌∷◌, ◌++◌, length, map, slice_get, codes, decimal, Option, Some, None}
+use Rattle.std.specs.List.{list_any}
+use Rattle.std.specs.Str.{bytes_eq}
+use Rattle.serde_json.specs.Data.{Data, string, object, Members, no_members, member}
 use Rattle.vc_labels.specs.declared.fault.TableFault.{TableFault}
 use Rattle.vc_labels.specs.declared.fault.TableFault.TheVariants as table
 use Rattle.vc_plan.specs.declared.limit_word.LimitWord.{LimitWord}
@@ -8,51 +11,117 @@ use Rattle.vc_plan.specs.declared.check_refused.CheckRefused.{CheckRefused}
 use Rattle.vc_plan.specs.declared.check_refused.CheckRefused.TheVariants as check
 use Rattle.vc_reader.specs.declared.path.Step.{Step}
 use Rattle.vc_reader.specs.declared.path.Step.TheVariants.{Field}
+use Rattle.vc_reader.specs.declared.word.Word.{Word}
+use Rattle.vc_reader.specs.Reading.{is_word}
+use Rattle.vc_reader.specs.Words.{word_text}
 use Rattle.vc_reader.specs.declared.refused.ReadRefused.{ReadRefused}
 use Rattle.vc_reader.specs.declared.refused.ReadRefused.TheVariants as read
-use Rattle.vc_reader.specs.declared.word.Word.TheVariants as word
+use Rattle.vc_explain.specs.DeclaredNames.{declared, slot_of, value_at}
+use Rattle.vc_explain.specs.Found.{found_words, quoted}
+use Rattle.vc_explain.specs.Nearest.{suggestion}
+use Rattle.vc_explain.specs.Slots.{fields, takes}
+use Rattle.vc_explain.specs.declared.slot.Slot.{Slot}
+use Rattle.vc_explain.specs.declared.slot.Slot.TheVariants as slot
 
--- the step goes into the switches, or into a table
-abbrev pub is_into_switches : Option Step → Bool
-is_into_switches (Some (Field word.Switches)) = true
-is_into_switches step = false
+-- what was found, and what the place takes
+unfoldable pub taken_text : Slot → List ℕ
+taken_text s = codes "The place takes " ++ takes s ++ codes "."
 
-abbrev pub is_into_table : Option Step → Bool
-is_into_table (Some (Field word.Table)) = true
-is_into_table step = false
+unfoldable pub found_text : Data → List ℕ
+found_text d = codes "Found " ++ found_words d ++ codes ". "
 
--- the path leads to a switch
-abbrev pub leads_to_switch : List Step → Bool
-leads_to_switch path = (length path == 2) && is_into_switches (slice_get path 0)
+abbrev pub found_sentence : Slot → Option Data → List ℕ
+found_sentence s None = taken_text s
+found_sentence s (Some d) = found_text d ++ taken_text s
 
--- the path leads to a row of a table
-abbrev pub leads_to_row : List Step → Bool
-leads_to_row path = (length path == 4) && is_into_table (slice_get path 2)
+abbrev pub is_among : List ℕ → List (List ℕ) → Bool
+is_among s names = list_any (bytes_eq s) names
+
+-- the text is among these names more than once
+abbrev pub is_twice : List ℕ → List (List ℕ) → Bool
+is_twice s [] = false
+is_twice s (name ∷ names) = if bytes_eq s name then is_among s names else is_twice s names
+
+unfoldable pub too_long : ℕ → List ℕ
+too_long n = codes " has " ++ decimal n ++ codes " characters, and 16 is the most. Write a shorter one."
+
+abbrev pub name_fault : List ℕ → List (List ℕ) → List ℕ
+name_fault s names =
+    if nat_lt 16 (length s) then too_long (length s) else if is_twice s names then codes " is given already. Write another one."
+    else codes " has another form: a name has letters, digits, `_` and `-`, and begins with a letter."
+
+-- a text that is no name, or is given already
+unfoldable pub name_sentence : List ℕ → List (List ℕ) → List ℕ
+name_sentence s names = codes "The name " ++ quoted s ++ name_fault s names
+
+-- a name is given in the slot
+abbrev pub gives_name : Slot → Bool
+gives_name slot.SpotName = true
+gives_name slot.VariableName = true
+gives_name slot.VlinkName = true
+gives_name slot.ChannelName = true
+gives_name s = false
 
 -- a value of the wrong kind
-abbrev pub kind_sentence : List Step → List ℕ
-kind_sentence path =
-    cond (leads_to_row path)
-    (codes "The row of the table is not three or four values of the kinds that its places want. Write four numbers, or two numbers and `portal`. A file of version 1 has no portal: write version 2.")
-    (codes "The value is of another kind than its place wants, is a number that is not whole, or is none of the words that may stand there. Or the list has another length than its place wants, or the name has a wrong form or is given already. Write what the place takes, or another name.")
+abbrev pub kind_sentence : Slot → List (List ℕ) → Option Data → List ℕ
+kind_sentence s names (Some (string text)) = if gives_name s then name_sentence text names else found_sentence s (Some (string text))
+kind_sentence s names found = found_sentence s found
 
--- what is not known: a field of an object, to which each path of less than three steps leads, or a name, or a word of a process
-abbrev pub unknown_sentence : List Step → List ℕ
-unknown_sentence path =
-    cond (leads_to_switch path)
-    (codes "The switch has a field that the format does not know. Correct its spelling, or leave it out. A file of version 1 has no `random`: write version 2.")
-    (cond (nat_lt (length path) 3)
-    (codes "The object has a field that the format does not know there. Correct its spelling, or leave it out.")
-    (codes "The name is that of nothing in the network, the word is that of no process, or the object has a field that it may not have. Correct its spelling, or write what it names."))
+-- what the names of a slot are names of
+abbrev pub nobody : Slot → List ℕ
+nobody slot.Spot = codes "No node or switch"
+nobody slot.SpotOrLink = codes "No node or switch"
+nobody slot.Node = codes "No node"
+nobody slot.Vlink = codes "No virtual link"
+nobody slot.Channel = codes "No channel"
+nobody s = codes "No variable of the node"
 
--- a text that is refused
-abbrev pub text_sentence : ReadRefused → List ℕ
-text_sentence read.Json = codes "The text is no JSON at the place below, or just before it. Look for a comma, a colon, a quote or a bracket that is missing or too many. A text that is empty, begins with a byte order mark, is no UTF-8 or nests more than 127 deep is none, too."
-text_sentence (read.Missing path) = codes "The object lacks a field that it must have. Write the field that stands last in the path."
-text_sentence (read.Kind path) = kind_sentence path
-text_sentence (read.Range path) = codes "The number is less or greater than its place allows, or the text is longer than 65,535 bytes. Write one that fits."
-text_sentence (read.Unknown path) = unknown_sentence path
-text_sentence read.Memory = []
+-- the first field of an object that is none of these
+abbrev pub strange_field : List Word → Members → Option (List ℕ)
+strange_field ws no_members = None
+strange_field ws (member key d ms) = if is_word ws key then strange_field ws ms else Some key
+
+unfoldable pub strange_text : List ℕ → List ℕ
+strange_text key = codes "The field " ++ quoted key ++ codes " is not known here."
+
+-- the object's fields do not go together
+unfoldable pub mixed_fields : Slot → List ℕ
+mixed_fields s = codes "The object has fields that do not go together. The place takes " ++ takes s ++ codes "."
+
+-- an object with such a field, or with fields that do not go together
+abbrev pub field_sentence : Slot → Option (List ℕ) → List ℕ
+field_sentence s (Some key) = strange_text key ++ suggestion key (map word_text (fields s))
+field_sentence slot.SwitchObject None = codes "A file of version 1 has no `random`. Write version 2."
+field_sentence s None = mixed_fields s
+
+unfoldable pub nobody_text : Slot → List ℕ → List ℕ
+nobody_text s text = nobody s ++ codes " has the name " ++ quoted text ++ codes "."
+
+-- what is not known: a field of an object, or a name
+abbrev pub unknown_sentence : Slot → List (List ℕ) → Option Data → List ℕ
+unknown_sentence s names (Some (object ms)) = field_sentence s (strange_field (fields s) ms)
+unknown_sentence s names (Some (string text)) = nobody_text s text ++ suggestion text names
+unknown_sentence s names found = found_sentence s found
+
+-- the field that is missing, with which the path ends
+abbrev pub word_of : Option Step → List ℕ
+word_of (Some (Field w)) = word_text w
+word_of step = []
+
+unfoldable pub missing_text : List Step → List ℕ
+missing_text path = codes "The object lacks the field `" ++ word_of (slice_get path (length path - 1)) ++ codes "`, which it must have."
+
+abbrev pub no_json : List ℕ
+no_json = codes "The text is no JSON at the place below, or just before it. Look for a comma, a colon, a quote or a bracket that is missing or too many. A text that is empty, begins with a byte order mark, is no UTF-8 or nests more than 127 deep is none, too."
+
+-- a text that is refused, of this value
+abbrev pub text_sentence : Data → ReadRefused → List ℕ
+text_sentence d read.Json = no_json
+text_sentence d (read.Missing path) = missing_text path
+text_sentence d (read.Kind path) = kind_sentence (slot_of path d) (declared (slot_of path d) path d) (value_at path d)
+text_sentence d (read.Range path) = found_sentence (slot_of path d) (value_at path d)
+text_sentence d (read.Unknown path) = unknown_sentence (slot_of path d) (declared (slot_of path d) path d) (value_at path d)
+text_sentence d read.Memory = []
 
 -- a limit that is broken
 abbrev pub limit_sentence : LimitWord → List ℕ
@@ -87,7 +156,7 @@ plan_sentence (check.PortMissing port) = codes "A virtual link sends by a link t
 plan_sentence (check.BlockTwice node block) = codes "Two ends of virtual links have the same block number at one node. Give each end at the node a block number of its own."
 plan_sentence (check.Table switch fault) = table_sentence fault
 plan_sentence (check.NoInterval path) = codes "A packet comes to a switch with a front header that is in no row of its table. Add a row for the header, or write another route."
-plan_sentence (check.WrongEnd path) = codes "A packet comes to another node than the other end of its virtual link, or not with the block number of that end alone. Change the route, a table or a wire."
+plan_sentence (check.WrongEnd path) = codes "A packet comes to another node than the other end of its virtual link, or not with the block number of that end alone. Change the route, a table, a wire or a list `delete`."
 plan_sentence (check.StackEmpty path) = codes "A packet has no header left where one is needed. Write one more header in the route, or delete fewer on the way."
 plan_sentence (check.StackFull path) = codes "A random header would be the seventh of a packet. Delete headers on the way, or let fewer inputs put random ones."
 plan_sentence (check.Hops path) = codes "A packet can go through more than 32 switches. Change the tables that send it round, or shorten the way."

@@ -1,9 +1,11 @@
 //! What is told of a network file.
 ghost use Rattle.std.specs.Prelude.{◌≡◌, ◌++◌, ◌-◌, ◌≤◌, [], length, take, option_map, IfOk, OnOk, Ok, Err, Some};
 ghost use Rattle.std.specs.List.{flat_map};
+ghost use Rattle.serde_json.specs.Data.{null};
+ghost use Rattle.serde_json.specs.View.{view};
 ghost use Rattle.vc_plan.specs.KeptLimits.{KeepsLimits};
 ghost use Rattle.vc_text.specs.declared.fault.RunFault.TheVariants.{Text, Network, Plan as InPlan};
-ghost use Rattle.vc_explain.specs.Explanation.{Explains, IsRefusal, IsTold, IsToldOfAccepted, IsToldOfRefusal, accepted_told, refusal_told, summary_text, text_place};
+ghost use Rattle.vc_explain.specs.Explanation.{Explains, HasValue, IsRefusal, IsTold, IsToldOfAccepted, IsToldOfRefusal, accepted_told, refusal_told, summary_text, text_place};
 ghost use Rattle.vc_explain.specs.Offenders.{path_of};
 ghost use Rattle.vc_explain.specs.Place.{path_line};
 ghost use Rattle.vc_reader.specs.NetworkText.{Reads};
@@ -12,11 +14,13 @@ ghost use Rattle.vc_text.specs.Deadlock.{deadlock_text};
 ghost use Rattle.vc_text.specs.Streams.{most_bytes};
 
 use crate::cause::push_cause_sentence;
+use crate::detail::push_detail;
 use crate::lengths::push_lengths;
 use crate::offender::{Offender, offenders, push_offender_line};
 use crate::place::{push_byte_line, push_path_line};
-use crate::sentence::{plan_sentence, text_sentence};
+use crate::sentence::plan_sentence;
 use crate::short_places::all_in_short;
+use crate::text_sentence::push_text_sentence;
 use crate::walk::push_path;
 use serde_json::Value;
 use std::alloc::Global;
@@ -140,7 +144,7 @@ fn stop_of(alloc: Global, text: &[u8]) -> Result<usize, Memory>
 
 /// The first n steps of a path, or all where there are fewer.
 #[tactic(auto, using(crate::proofs::Steps::step_more))]
-fn first_steps(alloc: Global, path: &Path, n: usize) -> Result<Vec<Step>, Memory>
+pub(crate) fn first_steps(alloc: Global, path: &Path, n: usize) -> Result<Vec<Step>, Memory>
     ensures { IfOk result (λ steps. steps.items ≡ take n path.now) }
 {
     let mut steps = Vec::new(alloc);
@@ -217,19 +221,34 @@ fn stop_of_refused(alloc: Global, text: &[u8], refused: &ReadRefused) -> Result<
     }
 }
 
+/// The value of a text that is JSON; nothing is said of another text.
+fn value_of(alloc: Global, text: &[u8], refused: &ReadRefused) -> Result<Value, Memory>
+    ensures { IfOk result (λ value. HasValue text.now refused.now (view value)) }
+{
+    match refused {
+        ReadRefused::Json => Ok(Value::Null),
+        _ => match Value::from_slice(alloc, text) {
+            Ok(value) => Ok(value),
+            Err(_) => Err(Memory),
+        },
+    }
+}
+
 /// What is told of a text that is refused.
 fn tell_text(
     alloc: Global,
     text: &[u8],
-    n: usize,
     fault: &RunFault,
     refused: &ReadRefused,
 ) -> Result<Vec<u8>, Memory>
-    requires { fault.now ≡ Text refused.now }
-    ensures { IfOk result (λ told. told.items ≡ refusal_told text.now n [] fault.now) }
+    requires fault { fault.now ≡ Text refused.now }
+    requires known { IsRefusal fault.now }
+    ensures { IfOk result (λ told. IsToldOfRefusal text.now fault.now told.items) }
 {
+    let n = stop_of_refused(alloc, text, refused)?;
+    let value = value_of(alloc, text, refused)?;
     let mut out = fault_text(alloc, fault)?;
-    out.extend_from_slice(text_sentence(refused).as_bytes())?;
+    push_text_sentence(alloc, &mut out, &value, refused)?;
     out.push(10)?;
     push_text_place(alloc, &mut out, text, n, refused)?;
     Ok(out)
@@ -243,7 +262,7 @@ fn tell_plan(
     fault: &RunFault,
 ) -> Result<Vec<u8>, Memory>
     ensures { IfOk result (λ told. IsRefusal fault.now
-        × (told.items ≡ refusal_told text.now 0 found.now fault.now)) }
+        × (told.items ≡ refusal_told text.now 0 null found.now fault.now)) }
 {
     match fault {
         RunFault::Plan(
@@ -255,6 +274,7 @@ fn tell_plan(
         RunFault::Plan(refusal) => {
             let mut out = fault_text(alloc, fault)?;
             out.extend_from_slice(plan_sentence(&refusal.why).as_bytes())?;
+            push_detail(&mut out, &refusal.plan, &refusal.why)?;
             out.push(10)?;
             push_offender_lines(&mut out, text, found)?;
             push_path(alloc, &mut out, &refusal.plan, &refusal.why)?;
@@ -267,7 +287,7 @@ fn tell_plan(
 /// What is told of a network that can't be labelled.
 fn tell_cause(alloc: Global, fault: &RunFault, cause: &LabelCause) -> Result<Vec<u8>, Memory>
     requires { fault.now ≡ Network cause.now }
-    ensures { IfOk result (λ told. told.items ≡ refusal_told [] 0 [] fault.now) }
+    ensures { IfOk result (λ told. told.items ≡ refusal_told [] 0 null [] fault.now) }
 {
     let mut out = fault_text(alloc, fault)?;
     push_cause_sentence(&mut out, cause)?;
@@ -281,11 +301,11 @@ fn tell_refusal(alloc: Global, text: &[u8], fault: &RunFault) -> Result<Vec<u8>,
 {
     match fault {
         RunFault::Text(ReadRefused::Memory) => Err(Memory),
-        RunFault::Text(refused) => {
-            let n = stop_of_refused(alloc, text, refused)?;
-            tell_text(alloc, text, n, fault, refused)
+        RunFault::Text(refused) => { tell_text(alloc, text, fault, refused) }
+        RunFault::Network(cause) => {
+            let told = tell_cause(alloc, fault, cause)?;
+            Ok(told)
         }
-        RunFault::Network(cause) => tell_cause(alloc, fault, cause),
         _ => Err(Memory),
     }
 }

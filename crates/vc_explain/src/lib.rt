@@ -11,11 +11,15 @@
 #![tactic(auto)]
 
 mod cause;
+mod declared_names;
+mod detail;
 mod explanation;
+mod found;
 mod laws;
 mod lengths;
 mod limits;
 mod misuse;
+mod nearest;
 mod offence;
 mod offender;
 mod parts;
@@ -25,6 +29,8 @@ mod quoting;
 mod search;
 mod sentence;
 mod short_places;
+mod slot;
+mod text_sentence;
 mod walk;
 mod wanted;
 
@@ -32,3 +38,4 @@ pub use explanation::{Explanation, explain, run_explain};
 pub use laws::offences_are_found;
 pub use offender::Offender;
 pub use quoting::Quoting;
+pub use slot::Slot;

@@ -1,9 +1,10 @@
 //! What a refusal names.
 ghost use Rattle.std.specs.Prelude.{◌≡◌, ◌++◌, ◌∷◌, IfOk, OnOk, Some, slice_get};
-ghost use Rattle.vc_explain.specs.Offenders.{end_field as field_of_end, has_block as has_block_of, of_block, of_channel, of_first, of_item, of_limit, of_misuse, of_part, of_path, of_port, of_spot, of_usage, of_vlink, of_wire, offenders as offenders_of, path_of};
+ghost use Rattle.vc_explain.specs.Offenders.{end_field as field_of_end, has_block as has_block_of, of_block, of_channel, of_first, of_item, of_limit, of_misuse, of_part, of_path, of_port, of_spot, of_table, of_usage, of_vlink, of_wire, offenders as offenders_of, path_of};
 ghost use Rattle.vc_explain.specs.Place.{path_line};
 ghost use Rattle.vc_plan.specs.Wires.{same_port, same_spot};
 
+use crate::detail::bad_row;
 use crate::limits::{
     bad_end, bad_random, bad_route, bad_switch_link, bad_wire, many_parts, many_rows, many_vars,
     too_deep,
@@ -114,7 +115,7 @@ fn spot_item(spot: Spot) -> Offender
     }
 }
 
-fn equal_spots(a: Spot, b: Spot) -> bool
+pub(crate) fn equal_spots(a: Spot, b: Spot) -> bool
     ensures { result ≡ same_spot a b }
 {
     match (a, b) {
@@ -124,7 +125,7 @@ fn equal_spots(a: Spot, b: Spot) -> bool
     }
 }
 
-fn equal_ports(a: Port, b: Port) -> bool
+pub(crate) fn equal_ports(a: Port, b: Port) -> bool
     ensures { result ≡ same_port a b }
 {
     equal_spots(a.spot, b.spot) && a.link == b.link
@@ -267,6 +268,30 @@ fn push_usage(found: &mut Vec<Offender>, node: usize, places: Option<Places>) ->
     Ok(())
 }
 
+/// The row of a switch's table that is at fault, or else the table.
+fn push_row(
+    alloc: Global,
+    found: &mut Vec<Offender>,
+    switch: usize,
+    row: Option<usize>,
+) -> Result<(), Memory>
+    ensures { OnOk result (found.new.items ≡ found.old.items ++ of_table switch row) }
+{
+    match row {
+        Some(row) => {
+            let path = [
+                Step::Field(Word::Switches),
+                Step::Index(switch),
+                Step::Field(Word::Table),
+                Step::Index(row),
+            ];
+            found.push(Offender::Place(Items::from_slice(alloc, &path)?))?;
+        }
+        None => found.push(Offender::Part(Word::Switches, switch, Word::Table))?,
+    }
+    Ok(())
+}
+
 /// What a refusal names, in the order in which it is told.
 pub(crate) fn offenders(
     alloc: Global,
@@ -288,7 +313,12 @@ pub(crate) fn offenders(
             found.append(&mut ends_at(alloc, plan.vlinks.as_slice(), *node, *block)?)?;
         }
         CheckRefused::Table { switch, fault: _ } => {
-            found.push(Offender::Part(Word::Switches, usize::from(*switch), Word::Table))?;
+            push_row(
+                alloc,
+                &mut found,
+                usize::from(*switch),
+                bad_row(plan, *switch),
+            )?;
         }
         CheckRefused::NoInterval(path)
         | CheckRefused::WrongEnd(path)

@@ -1,65 +1,9 @@
 //! A plain sentence for each refusal, and what to change.
 ghost use Rattle.std.specs.Prelude.{◌≡◌};
-ghost use Rattle.vc_explain.specs.Sentences.{kind_sentence as sentence_of_kind, leads_to_row, leads_to_switch, limit_sentence as sentence_of_limit, plan_sentence as sentence_of_plan, table_sentence as sentence_of_table, text_sentence as sentence_of_text, unknown_sentence as sentence_of_unknown};
+ghost use Rattle.vc_explain.specs.Sentences.{limit_sentence as sentence_of_limit, plan_sentence as sentence_of_plan, table_sentence as sentence_of_table};
 
 use vc_labels::TableFault;
 use vc_plan::{CheckRefused, LimitWord};
-use vc_reader::{Path, ReadRefused, Step, Word};
-
-/// Whether a path leads to a switch.
-fn is_switch(path: &Path) -> bool
-    ensures { result ≡ leads_to_switch path.now }
-{
-    path.len() == 2 && matches!(path.step(0), Step::Field(Word::Switches))
-}
-
-/// Whether a path leads to a row of a table.
-fn is_row(path: &Path) -> bool
-    ensures { result ≡ leads_to_row path.now }
-{
-    path.len() == 4 && matches!(path.step(2), Step::Field(Word::Table))
-}
-
-/// The sentence for a value of the wrong kind.
-fn kind_sentence(path: &Path) -> &'static str
-    ensures { result.now ≡ sentence_of_kind path.now }
-{
-    if is_row(path) {
-        "The row of the table is not three or four values of the kinds that its places want. Write four numbers, or two numbers and `portal`. A file of version 1 has no portal: write version 2."
-    } else {
-        "The value is of another kind than its place wants, is a number that is not whole, or is none of the words that may stand there. Or the list has another length than its place wants, or the name has a wrong form or is given already. Write what the place takes, or another name."
-    }
-}
-
-/// The sentence for what is not known. A path of less than three steps leads to an object.
-fn unknown_sentence(path: &Path) -> &'static str
-    ensures { result.now ≡ sentence_of_unknown path.now }
-{
-    if is_switch(path) {
-        "The switch has a field that the format does not know. Correct its spelling, or leave it out. A file of version 1 has no `random`: write version 2."
-    } else if path.len() < 3 {
-        "The object has a field that the format does not know there. Correct its spelling, or leave it out."
-    } else {
-        "The name is that of nothing in the network, the word is that of no process, or the object has a field that it may not have. Correct its spelling, or write what it names."
-    }
-}
-
-/// The sentence for a text that is refused.
-pub(crate) fn text_sentence(refused: &ReadRefused) -> &'static str
-    ensures { result.now ≡ sentence_of_text refused.now }
-{
-    match refused {
-        ReadRefused::Json =>
-            "The text is no JSON at the place below, or just before it. Look for a comma, a colon, a quote or a bracket that is missing or too many. A text that is empty, begins with a byte order mark, is no UTF-8 or nests more than 127 deep is none, too.",
-        ReadRefused::Missing(_) =>
-            "The object lacks a field that it must have. Write the field that stands last in the path.",
-        ReadRefused::Kind(path) => kind_sentence(path),
-        ReadRefused::Range(_) =>
-            "The number is less or greater than its place allows, or the text is longer than 65,535 bytes. Write one that fits.",
-        ReadRefused::Unknown(path) => unknown_sentence(path),
-        ReadRefused::Memory => "",
-    }
-}
 
 fn limit_sentence(word: LimitWord) -> &'static str
     ensures { result.now ≡ sentence_of_limit word }
@@ -123,7 +67,7 @@ pub(crate) fn plan_sentence(why: &CheckRefused) -> &'static str
         CheckRefused::NoInterval(_) =>
             "A packet comes to a switch with a front header that is in no row of its table. Add a row for the header, or write another route.",
         CheckRefused::WrongEnd(_) =>
-            "A packet comes to another node than the other end of its virtual link, or not with the block number of that end alone. Change the route, a table or a wire.",
+            "A packet comes to another node than the other end of its virtual link, or not with the block number of that end alone. Change the route, a table, a wire or a list `delete`.",
         CheckRefused::StackEmpty(_) =>
             "A packet has no header left where one is needed. Write one more header in the route, or delete fewer on the way.",
         CheckRefused::StackFull(_) =>

@@ -57,7 +57,7 @@ fn past_portals<'a>(rows: &[Row], headers: &'a [u16]) -> &'a [u16]
     rest
 }
 
-fn deletes(links: &[u8], link: u8) -> bool
+pub(crate) fn deletes(links: &[u8], link: u8) -> bool
     ensures { result ≡ does_delete links.now link }
 {
     for other in links {
