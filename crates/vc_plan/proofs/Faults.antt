@@ -1,4 +1,4 @@
--- The first fault of a level: it shows, and none before it does.
+-- The first fault that shows at a place, and a place without one.
 use Rattle.std.proofs.Common.{◌≡◌, ℕ, List, [], ◌∷◌, ◌⊎◌, Option, Some, None, refl, sym, ap, ◌∙◌, inl, inr}
 use Rattle.vc_plan.specs.declared.plan.Plan.{Plan}
 use Rattle.vc_plan.specs.declared.vlink.End.{End}
@@ -13,7 +13,7 @@ use Rattle.vc_plan.specs.Faults.{IsDrawnAt, fault_at, shown_at, at_node, ValueBe
 use Rattle.vc_plan.specs.Hops.{range_in}
 use Rattle.vc_plan.specs.Wires.{switch_at}
 use Rattle.vc_plan.specs.Search.{values}
-use Rattle.vc_plan.specs.Private.Search.{value_shown, first_value_shown, shown_in, shown_by, entry_shown, first_shown}
+use Rattle.vc_plan.specs.Private.Search.{value_shown, first_value_shown, shown_in, shown_by}
 use Rattle.vc_plan.proofs.Members.{In, Pairs}
 use Rattle.vc_plan.proofs.Onward.{values-In, In-values, values-rise, EntryBefore}
 
@@ -106,78 +106,3 @@ first-at net end made e (Switch n) s is =
 
 pub entry-first : (net : Plan) (end : End) (made : ℕ) (e : Entry) (s : Shown) → shown_by net end made e ≡ Some s → FirstAt net end made e e.port.spot s
 entry-first net end made e s is = first-at net end made e e.port.spot s is
-
--- a level without a fault
-clear-go : (e : Entry) (s : Option Shown) (next : Option Faulty) → entry_shown e s next ≡ None → (s ≡ None) × (next ≡ None)
-clear-go e None next is = (refl, is)
-clear-go e (Some s) next is = absurd cc
-
-pub level-clear : (net : Plan) (end : End) (made : ℕ) (es : List Entry) → first_shown net end made es ≡ None →
-    (e : Entry) → In e es → shown_by net end made e ≡ None
-level-clear net end made [] is e i = absurd i
-level-clear net end made (x ∷ es) is e (inl same) =
-    ap (λ (y : Entry). shown_by net end made y) (sym same) ∙ (clear-go x (shown_by net end made x) (first_shown net end made es) is).0
-level-clear net end made (x ∷ es) is e (inr i) =
-    level-clear net end made es (clear-go x (shown_by net end made x) (first_shown net end made es) is).1 e i
-
--- a level's first fault
-abbrev pub NotLater : Faulty → Entry → Option ℕ → Type 0
-NotLater f x w = Before f.hops x.hops ⊎ ((f.hops ≡ x.hops) × (ValueBefore f.value w ⊎ (f.value ≡ w)))
-
-pub record FirstFault (net : Plan) (end : End) (made : ℕ) (es : List Entry) (f : Faulty) : Type 0 where
-  pub entry : Entry
-  pub there : In entry es
-  pub hops : f.hops ≡ entry.hops
-  pub last : f.last ≡ entry.port.spot
-  pub drawn : IsDrawnAt net entry.port.link entry.port.spot f.value
-  pub shows : fault_at net end made entry.port.spot f.value entry.headers ≡ Some f.fault
-  pub least : (x : Entry) (w : Option ℕ) (g : Fault) → In x es → IsDrawnAt net x.port.link x.port.spot w →
-      fault_at net end made x.port.spot w x.headers ≡ Some g → NotLater f x w
-
-later-fault : (net : Plan) (end : End) (made : ℕ) (e : Entry) (es : List Entry) (f : Faulty) → shown_by net end made e ≡ None →
-    FirstFault net end made es f → FirstFault net end made (e ∷ es) f
-later-fault net end made e es f clear r = record {
-  entry = r.entry;
-  there = inr r.there;
-  hops = r.hops;
-  last = r.last;
-  drawn = r.drawn;
-  shows = r.shows;
-  least = go;
-}
-  where
-    go : (x : Entry) (w : Option ℕ) (g : Fault) → In x (e ∷ es) → IsDrawnAt net x.port.link x.port.spot w →
-        fault_at net end made x.port.spot w x.headers ≡ Some g → NotLater f x w
-    go x w g (inl same) d shown =
-        absurd (let u : fault_at net end made x.port.spot w x.headers ≡ None = entry-clear net end made x (ap (λ (y : Entry). shown_by net end made y) (sym same) ∙ clear) w d in cc)
-    go x w g (inr i) d shown = r.least x w g i d shown
-
-this-fault : (net : Plan) (end : End) (made : ℕ) (e : Entry) (es : List Entry) (s : Shown) → shown_by net end made e ≡ Some s →
-    Pairs EntryBefore (e ∷ es) → FirstFault net end made (e ∷ es) (record { hops = e.hops; last = e.port.spot; value = s.value; fault = s.fault })
-this-fault net end made e es s is rise =
-    let f = entry-first net end made e s is in
-    record { entry = e; there = inl refl; hops = refl; last = refl; drawn = f.drawn; shows = f.shows; least = go f }
-  where
-    go : FirstAt net end made e e.port.spot s → (x : Entry) (w : Option ℕ) (g : Fault) → In x (e ∷ es) → IsDrawnAt net x.port.link x.port.spot w →
-        fault_at net end made x.port.spot w x.headers ≡ Some g →
-        Before e.hops x.hops ⊎ ((e.hops ≡ x.hops) × (ValueBefore s.value w ⊎ (s.value ≡ w)))
-    go f x w g (inl same) d shown =
-        inr (
-          ap (λ (y : Entry). y.hops) same,
-          f.first w g (rw same d) (rw same shown),
-        )
-    go f x w g (inr i) d shown = inl (rise.0 x i)
-
-fault-go : (net : Plan) (end : End) (made : ℕ) (e : Entry) (es : List Entry) (f : Faulty) (s : Option Shown) → shown_by net end made e ≡ s →
-    Pairs EntryBefore (e ∷ es) → entry_shown e s (first_shown net end made es) ≡ Some f →
-    (first_shown net end made es ≡ Some f → FirstFault net end made es f) → FirstFault net end made (e ∷ es) f
-fault-go net end made e es f None is rise found later = later-fault net end made e es f is (later found)
-fault-go net end made e es f (Some s) is rise found later =
-    let same : record { hops = e.hops; last = e.port.spot; value = s.value; fault = s.fault } ≡ f = cc in
-    rw (← same) (this-fault net end made e es s is rise)
-
-pub level-first : (net : Plan) (end : End) (made : ℕ) (es : List Entry) (f : Faulty) → Pairs EntryBefore es →
-    first_shown net end made es ≡ Some f → FirstFault net end made es f
-level-first net end made [] f rise is = absurd cc
-level-first net end made (e ∷ es) f rise is =
-    fault-go net end made e es f (shown_by net end made e) refl rise is (level-first net end made es f rise.1)

@@ -3,6 +3,7 @@ pub mod Check
 pub mod Deletions
 pub mod Delivery
 pub mod Dependencies
+pub mod FarEnds
 pub mod Faults
 pub mod Hops
 pub mod KeptLimits

@@ -1,10 +1,11 @@
 //! Whether the labels take every packet of every virtual link to its end.
 
-ghost use Rattle.std.specs.Prelude.{◌≡◌, ◌<◌, IfOk, IfSome, IfNone, Some, true, false, length};
+ghost use Rattle.std.specs.Prelude.{◌≡◌, ◌<◌, IfOk, IfSome, IfNone, OnOk, Some, true, false, length};
 ghost use Rattle.vc_plan.specs.declared.vlink.Vlink.{Vlink};
 ghost use Rattle.vc_plan.specs.Delivery.{DeliversTo, IsLabelled, IsLabelledLink};
 ghost use Rattle.vc_plan.specs.Hops.{LimitsFit};
 ghost use Rattle.vc_plan.specs.Wires.{IsWired};
+ghost use Rattle.vc_plan.specs.Private.Following.{AreSummaries};
 ghost use Rattle.vc_plan.specs.Labelling.{IsFaultOfWay, IsFaultOfLink, IsFirstFault};
 
 use crate::fault::Fault;
@@ -13,6 +14,7 @@ use crate::path_fault::Hop;
 use crate::port::{Port, Spot};
 use crate::search::find_fault;
 use crate::searched_plan::SearchedPlan;
+use crate::summary::Summary;
 use crate::vlink::{End, Vlink};
 use sqlite_items::Items;
 use std::alloc::Global;
@@ -33,6 +35,7 @@ pub(crate) struct FaultyPath {
 fn way_fault(
     alloc: Global,
     net: &SearchedPlan<'_>,
+    known: &mut Vec<Summary>,
     from: &End,
     to: &End,
     vlink: u16,
@@ -40,6 +43,8 @@ fn way_fault(
 ) -> Result<Option<FaultyPath>, Memory>
     requires limits { LimitsFit net.now }
     requires wired { IsWired net.now }
+    requires known { AreSummaries net.now known.old.items }
+    ensures known { OnOk result (AreSummaries net.now known.new.items) }
     ensures delivers { IfOk result (λ found. IfNone found (DeliversTo net.now from.now to.now)) }
     ensures fault { IfOk result (λ found.
         IfSome found (λ f. IsFaultOfWay net.now from.now to.now f)) }
@@ -52,7 +57,7 @@ fn way_fault(
     };
     match far_end(net.plan().wires.as_slice(), start) {
         None => Ok(None),
-        Some(port) => match find_fault(alloc, net, to, port, from.route.as_slice())? {
+        Some(port) => match find_fault(alloc, net, known, to, port, from.route.as_slice())? {
             None => Ok(None),
             Some(found) => Ok(Some(FaultyPath {
                 vlink,
@@ -70,19 +75,22 @@ fn way_fault(
 fn link_fault(
     alloc: Global,
     net: &SearchedPlan<'_>,
+    known: &mut Vec<Summary>,
     vlink: &Vlink,
     number: u16,
 ) -> Result<Option<FaultyPath>, Memory>
     requires limits { LimitsFit net.now }
     requires wired { IsWired net.now }
+    requires known { AreSummaries net.now known.old.items }
+    ensures known { OnOk result (AreSummaries net.now known.new.items) }
     ensures delivers { IfOk result (λ found. IfNone found (IsLabelledLink net.now vlink.now)) }
     ensures fault { IfOk result (λ found.
         IfSome found (λ f. IsFaultOfLink net.now vlink.now f.from_a f)) }
     ensures place { IfOk result (λ found. IfSome found (λ f. f.vlink ≡ number)) }
 {
-    match way_fault(alloc, net, &vlink.a, &vlink.b, number, true)? {
+    match way_fault(alloc, net, known, &vlink.a, &vlink.b, number, true)? {
         Some(fault) => Ok(Some(fault)),
-        None => way_fault(alloc, net, &vlink.b, &vlink.a, number, false),
+        None => way_fault(alloc, net, known, &vlink.b, &vlink.a, number, false),
     }
 }
 
@@ -98,8 +106,9 @@ pub(crate) fn labelling_fault(
     ensures labelled { IfOk result (λ found. IfNone found (IsLabelled net.now vlinks.now)) }
     ensures first { IfOk result (λ found. IfSome found (λ f. IsFirstFault net.now vlinks.now f)) }
 {
+    let mut known = Vec::new(alloc);
     for (k, vlink) in vlinks.iter().enumerate() {
-        if let Some(fault) = link_fault(alloc, net, vlink, k as u16)? {
+        if let Some(fault) = link_fault(alloc, net, &mut known, vlink, k as u16)? {
             return Ok(Some(fault));
         }
     }

@@ -10,9 +10,10 @@
 //! with the right kind, and uses channels and variables lawfully. A path that doesn't deliver is refused with the least such path:
 //! of the first virtual link in order, way ab before ba, with the fewest hops, then the least by its choices (`specs/Faults`).
 //!
-//! The search keeps the places reached after equally many hops, each once, in the order of their least paths; the definitions
-//! speak of all paths. Of an accepted plan it also finds how many switches the packets of each virtual link pass, at least and at
-//! most ([`vlink_lengths`]).
+//! The search for that path follows packets while the front ones of their headers last, and keeps what becomes of a header that an
+//! input draws until it has gone, by the number of the headers below it: hops look up the front header alone. So its time does not grow
+//! with the number of lists of headers that packets can have. The definitions speak of all paths. Of an accepted plan it is also found
+//! how many switches the packets of each virtual link pass, at least and at most ([`vlink_lengths`]).
 //!
 //! The plan of one node that runs all processes of a plan side by side, with every channel inside it, is made by [`together`].
 //!
@@ -20,15 +21,20 @@
 #![tactic(auto)]
 
 mod accepted;
+mod arrival;
 mod channel;
 mod check_refused;
 mod checker;
+mod explore;
 mod fault;
+mod follow;
 mod hops;
 mod labelling;
 mod laws;
+mod least_path;
 mod level;
 mod limit_word;
+mod mark;
 mod name;
 mod node_plan;
 mod one_node;
@@ -39,6 +45,8 @@ mod port;
 mod search;
 mod searched_plan;
 mod stack;
+mod summary;
+mod survey;
 mod switch_plan;
 mod usage;
 mod version;

@@ -1,11 +1,13 @@
 //! How many switches the packets of virtual links pass.
-ghost use Rattle.std.specs.Prelude.{◌≡◌, ℕ, Some, IfOk, slice_get};
+ghost use Rattle.std.specs.Prelude.{◌≡◌, ℕ, Some, IfOk, OnOk, slice_get};
 ghost use Rattle.std.specs.List.{AllZip};
 ghost use Rattle.vc_plan.specs.Accepted.{IsAccepted};
+ghost use Rattle.vc_plan.specs.Private.Following.{AreSummaries};
 ghost use Rattle.vc_plan.specs.WayLengths.{IsVlinkLength};
 
 use crate::accepted::Accepted;
 use crate::searched_plan::SearchedPlan;
+use crate::summary::Summary;
 use crate::vlink::Vlink;
 use crate::way_length::{WayLength, way_length};
 use std::alloc::Global;
@@ -20,14 +22,21 @@ pub struct VlinkLength {
     pub back: WayLength,
 }
 
-fn vlink_length(alloc: Global, net: &SearchedPlan<'_>, vlink: &Vlink) -> Result<VlinkLength, Memory>
+fn vlink_length(
+    alloc: Global,
+    net: &SearchedPlan<'_>,
+    known: &mut Vec<Summary>,
+    vlink: &Vlink,
+) -> Result<VlinkLength, Memory>
     requires accepted { IsAccepted net.now }
+    requires known { AreSummaries net.now known.old.items }
     requires there { (k : ℕ) × (slice_get net.now.vlinks k ≡ Some vlink.now) }
-    ensures { IfOk result (λ length. IsVlinkLength net.now vlink.now length) }
+    ensures known { OnOk result (AreSummaries net.now known.new.items) }
+    ensures length { IfOk result (λ length. IsVlinkLength net.now vlink.now length) }
 {
     Ok(VlinkLength {
-        there: way_length(alloc, net, &vlink.a, &vlink.b)?,
-        back: way_length(alloc, net, &vlink.b, &vlink.a)?,
+        there: way_length(alloc, net, known, &vlink.a, &vlink.b)?,
+        back: way_length(alloc, net, known, &vlink.b, &vlink.a)?,
     })
 }
 
@@ -39,9 +48,10 @@ pub fn vlink_lengths(alloc: Global, accepted: &Accepted) -> Result<Vec<VlinkLeng
 {
     let plan = accepted.plan();
     let net = SearchedPlan::new(alloc, plan)?;
+    let mut known = Vec::new(alloc);
     let mut lengths = Vec::new(alloc);
     for vlink in plan.vlinks.as_slice() {
-        lengths.push(vlink_length(alloc, &net, vlink)?)?;
+        lengths.push(vlink_length(alloc, &net, &mut known, vlink)?)?;
     }
     Ok(lengths)
 }
