@@ -69,3 +69,4 @@ pub mod Sent
 pub mod ValueKinds
 pub mod Alone
 pub mod NotedWaits
+pub mod KeyMarks

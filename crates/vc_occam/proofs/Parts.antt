@@ -12,20 +12,11 @@ use Rattle.vc_occam.specs.declared.frame.Turn.{Turn}
 use Rattle.vc_process.specs.Syntax.{Exp, Procs, no_parts, part}
 use Rattle.vc_occam.specs.Remains.{Rest, and_then}
 use Rattle.vc_occam.specs.Frames.{View, Shape, seq, branching, looping, counting, guarding, bodies, branches_of, follow, guarded, guards_of, is_at_itself, is_sound, plan_of, plans_of, rest_of, view, view_of}
-use Rattle.vc_occam.specs.Private.Frames.{IsPart, innermost, shape, unstopped}
+use Rattle.vc_occam.specs.Private.Frames.{IsPart, goes_on_at, innermost, shape, unstopped}
 use Rattle.vc_occam.specs.Private.Sites.{InPreorder, PartsInPreorder, BranchesInPreorder, GuardsInPreorder}
 use Rattle.vc_occam.proofs.AtItself.{frame_sound}
 use Rattle.vc_occam.proofs.PartSteps.{part_is_sound}
 use Rattle.vc_occam.proofs.Views.{view_out}
-
--- the part that goes on alone, if one does
-abbrev pub goes_on_at : Shape → Option View
-goes_on_at (seq vs k) = slice_get vs k
-goes_on_at (branching bs (Some k)) = slice_get (bodies bs) k
-goes_on_at (looping b v true) = Some v
-goes_on_at (counting x a n v (Some t)) = Some v
-goes_on_at (guarding gs (Within k)) = slice_get (guarded gs) k
-goes_on_at s = None
 
 -- an element that is there, of a list in which each is seen as something
 pub seen_there : {A : Type 0} (f : A → View) (xs : List A) (k : ℕ) (x : A) → k < length xs → x ≡ get_or xs k x → slice_get (map f xs) k ≡ Some (f x)
@@ -99,6 +90,7 @@ is_part f g s small h at k =
     let tells = shape_tells s (view g) at in
     let is = goes_as f s h tells.0 k in
     record {
+      goes_on = ap goes_on_at h ∙ at;
       smaller = small;
       rest = ap (λ (v : View). innermost v.rest) is ∙ tells.1 i;
       in_preorder = λ p. tells.2 i (subst (λ (v : View). InPreorder v.plan) is p);

@@ -4,6 +4,7 @@ pub mod Exchanges
 pub mod First
 pub mod Frames
 pub mod InUse
+pub mod Keys
 pub mod Laws
 pub mod MoveSites
 pub mod NodeTraces

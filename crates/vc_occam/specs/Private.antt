@@ -1,6 +1,7 @@
 -- What only private functions, invariants and proofs cite.
 pub mod BlockedParts
 pub mod Frames
+pub mod Keys
 pub mod MoveSites
 pub mod OneProof
 pub mod Receivers

@@ -27,6 +27,7 @@ pub data Rest : Type 0 where
   Turns : Rest → (var : ℕ) → (next : ℤ) → (left : ℕ) → Proc → Rest
   -- this, which remains of a process that changes these variables, beside what remains of the others
   Beside : Set → Rest → Rest → Rest
+  deriving IsSet as Rest-set
 
 -- this, and then these processes, if there are any
 abbrev pub and_then : Rest → Procs → Rest

@@ -9,7 +9,7 @@ use vc_packets::Memory;
 /// The channels inside a node, in order, so that one is found by halving.
 #[derive(Drop)]
 pub(crate) struct InnerChannels {
-    channels: Vec<u16>,
+    pub(crate) channels: Vec<u16>,
 }
 
 impl Model for InnerChannels {

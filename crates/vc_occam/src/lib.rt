@@ -36,6 +36,7 @@ mod act;
 mod answer;
 mod blocked;
 mod blocked_parts;
+mod copies;
 mod find;
 mod frame;
 mod frame_moves;
@@ -43,7 +44,9 @@ mod frame_tree;
 mod go;
 mod guards;
 mod inner_channels;
+mod key;
 mod laws;
+mod mark;
 mod meetings;
 mod moves;
 mod outcome;
@@ -57,6 +60,7 @@ mod waits;
 
 pub use answer::Answer;
 pub use blocked::Blocked;
+pub use key::Key;
 pub use laws::{
     exchanges_are_meetings, lawful_use_is_kept, listed_moves_can_be_made, sites_are_own,
     steps_are_traces, traces_are_made_by_steps, waiting_after,

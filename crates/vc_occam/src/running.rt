@@ -35,11 +35,11 @@ use vc_process::{Datum, Process, ValueKind};
 
 /// A process that runs on a node, with its variables: what remains of it, move by move.
 pub struct Running {
-    alloc: Global,
-    task: Task<Frame>,
-    vars: Vec<Datum>,
-    inside: InnerChannels,
-    waiters: Box<Waiters>,
+    pub(crate) alloc: Global,
+    pub(crate) task: Task<Frame>,
+    pub(crate) vars: Vec<Datum>,
+    pub(crate) inside: InnerChannels,
+    pub(crate) waiters: Box<Waiters>,
     ghost has_variables: { HasVariables (whole task) (length vars.items) },
     ghost in_preorder: { InPreorder (whole task) } by { InPreorder-prop (whole task) },
     ghost own_sites: { OwnSites (remains task) } by { OwnSites-prop (remains task) },
@@ -197,14 +197,14 @@ impl Running {
     ghost use Rattle.vc_occam.specs.StepsInARow.{RestsOn};
     ghost use Rattle.vc_process.specs.Lawful.{Lawfully};
     ghost use Rattle.vc_occam.specs.Remains.{Done};
-    ghost use Rattle.vc_occam.specs.Runnings.{inner_channels, moves, state};
+    ghost use Rattle.vc_occam.specs.Runnings.{inner_channels, moves, process_of, state};
     ghost use Rattle.vc_process.specs.Usage.{among};
     ghost use Rattle.vc_occam.specs.States.{Acts, FitsMove, IsAwaited, IsQuiet, Resumes, doing, sent_by, waiting, output, input};
     ghost use Rattle.vc_process.specs.ProcessStep.{Finishes, Receives, Rests};
 
     /// A process about to begin, its variables being 0 or without bytes. `inside` are the channels inside its node. At most 65,536
     /// processes are written in it, since a site's number has 16 bits.
-    #[tactic(auto, unfolding(crate::specs::Runnings::state, crate::specs::Runnings::inner_channels))]
+    #[tactic(auto, unfolding(crate::specs::Runnings::state, crate::specs::Runnings::inner_channels, crate::specs::Runnings::process_of))]
     pub fn new(
         alloc: Global,
         process: &Process,
@@ -216,6 +216,7 @@ impl Running {
         requires fits { Fits kinds.now process.now }
         ensures state { IfOk result (λ r. state r ≡ opening kinds.now process.now) }
         ensures inside { IfOk result (λ r. inner_channels r ≡ among inside.now) }
+        ensures process { IfOk result (λ r. process_of r ≡ written process.now) }
     {
         let vars = empty_variables(alloc, kinds)?;
         let inside = InnerChannels::new(alloc, inside)?;
@@ -373,7 +374,7 @@ impl Running {
     /// output begins, the input has it, and the output is finished. Only a move without a communication can be without memory,
     /// and then nothing has changed. Where the site waits then and no channel is inside the node, the other moves are what they were.
     #[inline(always)]
-    #[tactic(auto, unfolding(crate::specs::Runnings::state, crate::specs::Runnings::inner_channels))]
+    #[tactic(auto, unfolding(crate::specs::Runnings::state, crate::specs::Runnings::inner_channels, crate::specs::Runnings::process_of))]
     pub fn act(&mut self, made: &Move, answer: Answer) -> Result<(), Memory>
         requires listed { Contains (moves self.old) made.now }
         requires fits { FitsMove made.now (sent_by (state self.old) made.now) answer }
@@ -382,6 +383,7 @@ impl Running {
             (state self.new)) }
         ensures unchanged { OnErr result ((self.new ≡ self.old) × IsQuiet made.now) }
         ensures inside { inner_channels self.new ≡ inner_channels self.old }
+        ensures process { process_of self.new ≡ process_of self.old }
         ensures waits { OnOk result
             (BeginsToWait made.now answer →
             ((c : ℕ) → inner_channels self.old c ≡ false) →
@@ -415,7 +417,7 @@ impl Running {
     }
 
     /// Makes a move of one site, which is no step without a communication.
-    #[tactic(auto, unfolding(crate::specs::Runnings::state, crate::specs::Runnings::inner_channels))]
+    #[tactic(auto, unfolding(crate::specs::Runnings::state, crate::specs::Runnings::inner_channels, crate::specs::Runnings::process_of))]
     fn act_alone(&mut self, made: &Move, answer: Answer)
         requires listed { Contains (own (state self.old).rest (state self.old).store) made.now }
         requires loud { IsQuiet made.now → ⊥ }
@@ -423,6 +425,7 @@ impl Running {
         ensures made { Acts (state self.old)
             (doing made.now (sent_by (state self.old) made.now) answer) (state self.new) }
         ensures inside { inner_channels self.new ≡ inner_channels self.old }
+        ensures process { process_of self.new ≡ process_of self.old }
     {
         let has_none = answer.has_none();
         go_alone(self.alloc, &mut self.task, &mut self.vars, made, answer);
@@ -431,12 +434,13 @@ impl Running {
 
     /// Makes a step without a communication. Where it is without memory nothing has changed.
     #[inline(always)]
-    #[tactic(auto, unfolding(crate::specs::Runnings::state, crate::specs::Runnings::inner_channels))]
+    #[tactic(auto, unfolding(crate::specs::Runnings::state, crate::specs::Runnings::inner_channels, crate::specs::Runnings::process_of))]
     pub fn act_quietly(&mut self, site: u16) -> Result<(), Memory>
         requires listed { Contains (moves self.old) (Move.Quiet site) }
         ensures made { OnOk result (Acts (state self.old) (Rests site) (state self.new)) }
         ensures unchanged { OnErr result (self.new ≡ self.old) }
         ensures inside { inner_channels self.new ≡ inner_channels self.old }
+        ensures process { process_of self.new ≡ process_of self.old }
     {
         if let Outcome::Quiet { .. } = self.task.begins {
             self.step(site, None);
@@ -463,12 +467,13 @@ impl Running {
 
     /// Makes a step without a communication, which may assign bytes. Where it is without memory nothing has changed.
     #[inline(never)]
-    #[tactic(auto, unfolding(crate::specs::Runnings::state, crate::specs::Runnings::inner_channels))]
+    #[tactic(auto, unfolding(crate::specs::Runnings::state, crate::specs::Runnings::inner_channels, crate::specs::Runnings::process_of))]
     fn act_assigning(&mut self, site: u16) -> Result<(), Memory>
         requires listed { Contains (moves self.old) (Move.Quiet site) }
         ensures made { OnOk result (Acts (state self.old) (Rests site) (state self.new)) }
         ensures unchanged { OnErr result (self.new ≡ self.old) }
         ensures inside { inner_channels self.new ≡ inner_channels self.old }
+        ensures process { process_of self.new ≡ process_of self.old }
     {
         let assigned = self.task.assigned(self.alloc, site, &self.vars)?;
         self.step(site, assigned);
@@ -477,13 +482,14 @@ impl Running {
 
     /// Makes a step without a communication, which assigns these bytes, if any.
     #[inline(always)]
-    #[tactic(auto, unfolding(crate::specs::Runnings::state, crate::specs::Runnings::inner_channels))]
+    #[tactic(auto, unfolding(crate::specs::Runnings::state, crate::specs::Runnings::inner_channels, crate::specs::Runnings::process_of))]
     fn step(&mut self, site: u16, assigned: Option<Datum>)
         requires listed { Contains (moves self.old) (Move.Quiet site) }
         requires assigned { assigned ≡
             assigned_at site (remains self.old.task) (store self.old.vars.items) }
         ensures made { Acts (state self.old) (Rests site) (state self.new) }
         ensures inside { inner_channels self.new ≡ inner_channels self.old }
+        ensures process { process_of self.new ≡ process_of self.old }
     {
         self.task.go(&mut Quiet { site, assigned }, &mut self.vars);
     }
@@ -501,13 +507,14 @@ impl Running {
     }
 
     /// The output that waits on a channel is finished, if there is one; answers whether there was. Else nothing changes.
-    #[tactic(auto, unfolding(crate::specs::Runnings::state, crate::specs::Runnings::inner_channels))]
+    #[tactic(auto, unfolding(crate::specs::Runnings::state, crate::specs::Runnings::inner_channels, crate::specs::Runnings::process_of))]
     pub fn finish(&mut self, chan: u16) -> bool
         ensures finished { result ≡ true → Acts (state self.old) (Finishes chan) (state self.new) }
         ensures none { result ≡ false →
             (i : ℕ) → Contains (waiting (state self.old).rest) (output i chan) → ⊥ }
         ensures unchanged { result ≡ false → self.new ≡ self.old }
         ensures inside { inner_channels self.new ≡ inner_channels self.old }
+        ensures process { process_of self.new ≡ process_of self.old }
     {
         self.go_on(Waits::Output { chan }, None)
     }
@@ -527,7 +534,7 @@ impl Running {
 
     /// The site that waits for this goes on, if there is one; answers whether there was.
     #[inline(always)]
-    #[tactic(auto, unfolding(crate::specs::Runnings::state, crate::specs::Runnings::inner_channels))]
+    #[tactic(auto, unfolding(crate::specs::Runnings::state, crate::specs::Runnings::inner_channels, crate::specs::Runnings::process_of))]
     fn go_on(&mut self, wanted: Waits, message: Option<Bytes>) -> bool
         requires { FitsWait wanted message }
         ensures went { result ≡ true →
@@ -536,6 +543,7 @@ impl Running {
             (i : ℕ) → Contains (waiting (state self.old).rest) (waits_at wanted i) → ⊥ }
         ensures unchanged { result ≡ false → self.new ≡ self.old }
         ensures inside { inner_channels self.new ≡ inner_channels self.old }
+        ensures process { process_of self.new ≡ process_of self.old }
     {
         let Some(site) = self.waits_on(wanted) else {
             return false;

@@ -65,3 +65,13 @@ NeverStuck p = (ms : List Move) (s : Program) → Reaches p ms s → IsStuck p s
 -- no schedule has more moves
 abbrev pub EndsWithin : Plan → ℕ → Type 0
 EndsWithin p n = (ms : List Move) (s : Program) → Reaches p ms s → length ms ≤ n
+
+-- these moves get it stuck, and no schedule with fewer moves does
+pub record IsShortestStuck (p : Plan) (ms : List Move) (s : Program) : Type 0 where
+  pub reaches : Reaches p ms s
+  pub is_stuck : IsStuck p s
+  pub none_shorter : (ls : List Move) (t : Program) → Reaches p ls t → length ls < length ms → IsStuck p t → ⊥
+
+-- no schedule of so many moves, or fewer, gets stuck
+abbrev pub NotStuckWithin : Plan → ℕ → Type 0
+NotStuckWithin p n = (ms : List Move) (s : Program) → Reaches p ms s → length ms ≤ n → IsStuck p s → ⊥

@@ -1,5 +1,5 @@
 -- Who waits for what, as lines of text.
-use Rattle.std.specs.Prelude.{ℕ, List, [], ◌∷◌, ◌++◌, Bool, codes, decimal, if◌then◌else◌, slice_get}
+use Rattle.std.specs.Prelude.{ℕ, List, [], ◌∷◌, ◌++◌, Bool, false, codes, decimal, if◌then◌else◌, slice_get}
 use Rattle.std.specs.List.{enumerate_from, flat_map}
 use Rattle.std.specs.Option.{option_map_or}
 use Rattle.vc_accepted.specs.NetworkOf.{network_of}
@@ -25,8 +25,8 @@ newline = 10 ∷ []
 abbrev pub stop_text : Bool → List ℕ
 stop_text is_stopped = if is_stopped then codes " stopped" else []
 
-abbrev pub channel_text : Plan → NetworkState → ℕ → List ℕ
-channel_text plan x c = option_map_or (λ k. k.name ++ stop_text (view (network_of plan) x c).stopped) (slice_get plan.channels c) []
+abbrev pub channel_text : Plan → (is_stopped : Bool) → ℕ → List ℕ
+channel_text plan is_stopped c = option_map_or (λ k. k.name ++ stop_text is_stopped) (slice_get plan.channels c) []
 
 -- the path of the process that has a site, and what is said of it
 abbrev pub path_text : List (List ℕ) → ℕ → List ℕ
@@ -42,15 +42,26 @@ blocked_word (Input i c) = codes "waits"
 blocked_word (Guard i c) = codes "waits"
 blocked_word b = codes "stopped"
 
--- where a part of a process is, and what it waits for or how it has stopped
-unfoldable pub blocked_text : Plan → NetworkState → List (List ℕ) → Blocked → List ℕ
-blocked_text plan x paths (Output i c) = site_text paths i (codes " for the end of its output on ") ++ channel_text plan x c
-blocked_text plan x paths (Input i c) = site_text paths i (codes " for an input on ") ++ channel_text plan x c
-blocked_text plan x paths (Guard i c) = site_text paths i (codes " for a guard on ") ++ channel_text plan x c
-blocked_text plan x paths (Closed i) = site_text paths i (codes " at an ALT without an open guard")
-blocked_text plan x paths (Undecided i) = site_text paths i (codes " by a fault")
-blocked_text plan x paths (Stop i) = site_text paths i (codes " by STOP")
-blocked_text plan x paths (Stopped i) = site_text paths i (codes " by a fault or in an IF")
+-- where a part of a process is, and what it waits for, on a channel that is stopped or is not, or how it has stopped
+unfoldable pub part_text : Plan → (is_stopped : Bool) → List (List ℕ) → Blocked → List ℕ
+part_text plan is_stopped paths (Output i c) = site_text paths i (codes " for the end of its output on ") ++ channel_text plan is_stopped c
+part_text plan is_stopped paths (Input i c) = site_text paths i (codes " for an input on ") ++ channel_text plan is_stopped c
+part_text plan is_stopped paths (Guard i c) = site_text paths i (codes " for a guard on ") ++ channel_text plan is_stopped c
+part_text plan is_stopped paths (Closed i) = site_text paths i (codes " at an ALT without an open guard")
+part_text plan is_stopped paths (Undecided i) = site_text paths i (codes " by a fault")
+part_text plan is_stopped paths (Stop i) = site_text paths i (codes " by STOP")
+part_text plan is_stopped paths (Stopped i) = site_text paths i (codes " by a fault or in an IF")
+
+-- of the channels of which these are stopped, whether the one is on which a part waits
+abbrev pub waits_on : (ℕ → Bool) → Blocked → Bool
+waits_on stopped (Output i c) = stopped c
+waits_on stopped (Input i c) = stopped c
+waits_on stopped (Guard i c) = stopped c
+waits_on stopped b = false
+
+-- the same in a state of the network
+abbrev pub blocked_text : Plan → NetworkState → List (List ℕ) → Blocked → List ℕ
+blocked_text plan x paths b = part_text plan (waits_on (λ c. (view (network_of plan) x c).stopped) b) paths b
 
 -- what blocks a part of a node's process
 abbrev pub blocked_line : Plan → NetworkState → NodePlan → List (List ℕ) → Blocked → List ℕ

@@ -18,4 +18,4 @@ pub use number::push_number;
 pub use packets::{places, push_place, push_ports, push_waits};
 pub use port::push_port;
 pub use texts::push_texts;
-pub use waits::{blocked_word, process_paths, push_blocked};
+pub use waits::{blocked_word, process_paths, push_blocked, push_part};

@@ -1,7 +1,8 @@
 //! The text of who waits for what.
-ghost use Rattle.std.specs.Prelude.{◌≡◌, ◌++◌, IfOk, OnErr, OnOk};
+ghost use Rattle.std.specs.Prelude.{◌≡◌, ◌++◌, ℕ, List, IfOk, OnErr, OnOk};
 ghost use Rattle.vc_core.specs.State.{IsNetworkOf, state_of};
-ghost use Rattle.vc_waits.specs.Waits.{blocked_line, blocked_lines, blocked_text, blocked_word as word_of, channel_text, node_lines, path_text, process_path, processes_text, site_text, state_in};
+ghost use Rattle.vc_plan.specs.declared.plan.Plan.{Plan};
+ghost use Rattle.vc_waits.specs.Waits.{blocked_line, blocked_lines, blocked_text, blocked_word as word_of, channel_text, node_lines, part_text, path_text, process_path, processes_text, site_text, state_in};
 ghost use Rattle.vc_waits.specs.Paths.{paths as paths_of};
 
 use crate::number::push_number;
@@ -34,10 +35,9 @@ fn push_site(out: &mut Vec<u8>, paths: &[Bytes], site: u16, what: &[u8]) -> Resu
 }
 
 /// A channel's name, and whether a process has stopped it.
-fn push_channel(out: &mut Vec<u8>, plan: &Plan, network: &Network, chan: u16) -> Result<(), Memory>
-    requires { IsNetworkOf plan.now (state_of network.now) }
-    ensures ok { OnOk result (out.new.items
-        ≡ out.old.items ++ channel_text plan.now (state_in network.now) chan) }
+fn push_channel(out: &mut Vec<u8>, plan: &Plan, chan: u16, is_stopped: bool) -> Result<(), Memory>
+    ensures ok { OnOk result
+        (out.new.items ≡ out.old.items ++ channel_text plan.now is_stopped chan) }
     ensures err { OnErr result (out.new.items ≡ out.old.items) }
 {
     let Some(channel) = plan.channels.get(usize::from(chan)) else {
@@ -45,13 +45,17 @@ fn push_channel(out: &mut Vec<u8>, plan: &Plan, network: &Network, chan: u16) ->
     };
     let texts: [&[u8]; 2] = [
         channel.name.as_slice(),
-        if network.stopped(chan) {
-            b" stopped"
-        } else {
-            b""
-        },
+        if is_stopped { b" stopped" } else { b"" },
     ];
     push_texts(out, &texts)
+}
+
+/// A part that waits on a channel: its site, what is said of it, and the channel.
+#[derive(Clone, Copy, Drop)]
+struct Waiting<'a> {
+    site: u16,
+    what: &'a [u8],
+    chan: u16,
 }
 
 /// The path of the process that has a site, what is said of it, and the channel on which it waits.
@@ -59,21 +63,18 @@ fn push_channel(out: &mut Vec<u8>, plan: &Plan, network: &Network, chan: u16) ->
 fn push_site_on(
     out: &mut Vec<u8>,
     plan: &Plan,
-    network: &Network,
     paths: &[Bytes],
-    site: u16,
-    what: &[u8],
-    chan: u16,
+    waiting: Waiting<'_>,
+    is_stopped: bool,
 ) -> Result<(), Memory>
-    requires { IsNetworkOf plan.now (state_of network.now) }
     ensures ok { OnOk result (out.new.items ≡ out.old.items
-        ++ (site_text paths.now site what.now
-        ++ channel_text plan.now (state_in network.now) chan)) }
+        ++ (site_text paths.now waiting.entry.site waiting.entry.what.now
+        ++ channel_text plan.now is_stopped waiting.entry.chan)) }
     ensures err { OnErr result (out.new.items ≡ out.old.items) }
 {
     let start = out.len();
-    push_site(out, paths, site, what)?;
-    let named = push_channel(out, plan, network, chan);
+    push_site(out, paths, waiting.site, waiting.what)?;
+    let named = push_channel(out, plan, waiting.chan, is_stopped);
     if named.is_err() {
         out.truncate(start);
     }
@@ -93,9 +94,65 @@ pub fn blocked_word(blocked: Blocked) -> &'static str
     }
 }
 
+/// Adds to a text where a part of a process is that does not go on by itself, and what it waits for or how it has stopped. If it waits
+/// on a channel, `is_stopped` says whether that is stopped. The call fails only when out of memory, and the text is then unchanged.
+#[tactic(auto, unfolding(crate::specs::Waits::part_text))]
+pub fn push_part(
+    out: &mut Vec<u8>,
+    plan: &Plan,
+    paths: &[Bytes],
+    blocked: Blocked,
+    is_stopped: bool,
+) -> Result<(), Memory>
+    ensures ok { OnOk result (out.new.items
+        ≡ out.old.items ++ part_text plan.now is_stopped paths.now blocked) }
+    ensures err { OnErr result (out.new.items ≡ out.old.items) }
+{
+    let waiting = match blocked {
+        Blocked::Output { site, chan } => Waiting {
+            site,
+            what: b" for the end of its output on ",
+            chan,
+        },
+        Blocked::Input { site, chan } => Waiting {
+            site,
+            what: b" for an input on ",
+            chan,
+        },
+        Blocked::Guard { site, chan } => Waiting {
+            site,
+            what: b" for a guard on ",
+            chan,
+        },
+        Blocked::Closed { site } => {
+            return push_site(out, paths, site, b" at an ALT without an open guard");
+        }
+        Blocked::Undecided { site } => return push_site(out, paths, site, b" by a fault"),
+        Blocked::Stop { site } => return push_site(out, paths, site, b" by STOP"),
+        Blocked::Stopped { site } => {
+            return push_site(out, paths, site, b" by a fault or in an IF");
+        }
+    };
+    push_site_on(out, plan, paths, waiting, is_stopped)
+}
+
+/// Whether a channel on which a part waits is stopped.
+#[tactic(auto, unfolding(crate::specs::Waits::part_text))]
+fn waits_on_stopped(network: &Network, blocked: Blocked) -> bool
+    ensures { (p : Plan) →
+        IsNetworkOf p (state_of network.now) →
+        (paths : List (List ℕ)) →
+        part_text p result paths blocked ≡ blocked_text p (state_in network.now) paths blocked }
+{
+    match blocked {
+        Blocked::Output { chan, .. } | Blocked::Input { chan, .. } | Blocked::Guard { chan, .. } =>
+            { network.stopped(chan) }
+        _ => false,
+    }
+}
+
 /// Adds to a text where a part of a process is that does not go on by itself, and what it waits for or how it has stopped. It fails for
 /// want of memory alone, and the text is then as it was.
-#[tactic(auto, unfolding(crate::specs::Waits::blocked_text))]
 pub fn push_blocked(
     out: &mut Vec<u8>,
     plan: &Plan,
@@ -108,31 +165,13 @@ pub fn push_blocked(
         ≡ out.old.items ++ blocked_text plan.now (state_in network.now) paths.now blocked) }
     ensures err { OnErr result (out.new.items ≡ out.old.items) }
 {
-    match blocked {
-        Blocked::Output { site, chan } => {
-            push_site_on(
-                out,
-                plan,
-                network,
-                paths,
-                site,
-                b" for the end of its output on ",
-                chan,
-            )
-        }
-        Blocked::Input { site, chan } => {
-            push_site_on(out, plan, network, paths, site, b" for an input on ", chan)
-        }
-        Blocked::Guard { site, chan } => {
-            push_site_on(out, plan, network, paths, site, b" for a guard on ", chan)
-        }
-        Blocked::Closed { site } => {
-            push_site(out, paths, site, b" at an ALT without an open guard")
-        }
-        Blocked::Undecided { site } => push_site(out, paths, site, b" by a fault"),
-        Blocked::Stop { site } => push_site(out, paths, site, b" by STOP"),
-        Blocked::Stopped { site } => push_site(out, paths, site, b" by a fault or in an IF"),
-    }
+    push_part(
+        out,
+        plan,
+        paths,
+        blocked,
+        waits_on_stopped(network, blocked),
+    )
 }
 
 /// The line of what blocks a part of a node's process.

@@ -41,7 +41,8 @@ use Rattle.vc_occam.specs.Sites.{site}
 use Rattle.vc_occam.specs.States.{Waiting, output, input, waiting, output_at}
 use Rattle.vc_occam.specs.First.{all_decided, choices, is_true, own}
 use Rattle.vc_occam.specs.MoveSites.{site_of}
-use Rattle.vc_occam.specs.Frames.{View, Shape, skip, empty_seq, empty_par, stop, assign, send, receive, stop_chan, seq, par, branching, looping, counting, guarding, guards_of, is_at_itself, is_sound, left_by, outcome_of, plan_of, plans_of, rest_of, task_view, turns_left, view, view_of}
+use Rattle.vc_occam.specs.declared.frame.Choice.TheVariants.{Within}
+use Rattle.vc_occam.specs.Frames.{View, Shape, skip, empty_seq, empty_par, stop, assign, send, receive, stop_chan, seq, par, branching, looping, counting, guarding, bodies, guarded, guards_of, is_at_itself, is_sound, left_by, outcome_of, plan_of, plans_of, rest_of, task_view, turns_left, view, view_of}
 
 -- nothing remains
 abbrev pub has_ended : Outcome → Bool
@@ -265,8 +266,18 @@ goes_alone s = is_at_itself s
 abbrev pub GoesAlone : Frame → Type 0
 GoesAlone f = goes_alone (shape (out-Frame f).construct) ≡ true
 
+-- the part that goes on alone, if one does
+abbrev pub goes_on_at : Shape → Option View
+goes_on_at (seq vs k) = slice_get vs k
+goes_on_at (branching bs (Some k)) = slice_get (bodies bs) k
+goes_on_at (looping b v true) = Some v
+goes_on_at (counting x a n v (Some t)) = Some v
+goes_on_at (guarding gs (Within k)) = slice_get (guarded gs) k
+goes_on_at s = None
+
 -- a part of a frame goes on alone
 pub record IsPart (part whole : Frame) : Type 0 where
+  pub goes_on : goes_on_at (shape (out-Frame whole).construct) ≡ Some (view part)
   pub smaller : size-Frame part < size-Frame whole
   pub rest : innermost (view whole).rest ≡ innermost (view part).rest
   pub in_preorder : InPreorder (view whole).plan → InPreorder (view part).plan

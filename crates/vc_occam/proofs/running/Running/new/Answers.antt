@@ -6,7 +6,7 @@ use Rattle.vc_occam.specs.InUse.{UsesLawfully}
 use Rattle.vc_occam.specs.Private.Frames.{HasVariables, seen_task}
 use Rattle.vc_occam.specs.Private.Sites.{InPreorder}
 use Rattle.vc_occam.specs.Remains.{Rest, begin}
-use Rattle.vc_occam.specs.Runnings.{state}
+use Rattle.vc_occam.specs.Runnings.{process_of, state}
 use Rattle.vc_occam.specs.Sites.{OwnSites}
 use Rattle.vc_process.specs.Numbering.{written}
 use Rattle.vc_process.specs.Terms.{store}
@@ -41,3 +41,8 @@ returns-clause-state c =
     let t = c.in_ok-task.task in
     let is : remains t ≡ begin (written p) = ap (λ (v : View). v.rest) (has_begun t _ c.in_ok-task.ensures.made ∙ ap begun (sym (written_is p))) in
     ap (λ (r : Rest). record { rest = r; store = store c.in_ok-vars.vars.items }) is ∙ ap (λ (xs : List Datum). record { rest = begin (written p); store = store xs }) c.in_ok-vars.ensures
+
+pub returns-clause-process : goal.returns-clause-process
+unfolding process_of
+returns-clause-process c =
+    ap (λ (v : View). v.plan) (has_begun c.in_ok-task.task _ c.in_ok-task.ensures.made ∙ ap begun (sym (written_is c.args.process.now)))

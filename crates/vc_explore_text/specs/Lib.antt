@@ -1,0 +1,3 @@
+pub mod ExploredJson
+pub mod ExploredText
+pub mod Exploration
