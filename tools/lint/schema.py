@@ -1,5 +1,5 @@
 #!/usr/bin/env python3
-"""Holds the examples against docs/network.schema.json: bench/schema.py. It wants Python's jsonschema, and does nothing
+"""Holds the examples against docs/network.schema.json: tools/lint/schema.py. It wants Python's jsonschema, and does nothing
 without it.
 
 Each network of examples/index.txt that vcnet reads (no refusal 20 to 24) must be one by the schema. Of those that are refused for their
@@ -16,7 +16,7 @@ try:
 except ImportError:
     sys.exit(print("there is no jsonschema: nothing was held against the schema"))
 
-ROOT = os.path.dirname(os.path.dirname(os.path.abspath(__file__)))
+ROOT = os.path.dirname(os.path.dirname(os.path.dirname(os.path.abspath(__file__))))
 
 
 def rows():

@@ -1,5 +1,5 @@
 #!/usr/bin/env python3
-"""Looks at the edits: bench/wrong_bodies.py [--list].
+"""Looks at the edits: tools/lint/unfit_edits.py [--list].
 
 It prints a line for each of these, and fails if there is one: an edit whose first line does not say, after a `#` and in a sentence or two,
 what its wrong body does; an edit that the sources do not take; and an edit that docs/PROMISES.md names and that is not there. With --list it
@@ -15,11 +15,11 @@ import os
 import re
 import sys
 
-ROOT = os.path.dirname(os.path.dirname(os.path.abspath(__file__)))
+ROOT = os.path.dirname(os.path.dirname(os.path.dirname(os.path.abspath(__file__))))
 PAGE = f"{ROOT}/docs/PROMISES.md"
 REASON = re.compile(r"# ([A-Z`].*\.)\n")
 # Who tries the edits of a folder.
-TRIED = {"crates": "gate", "bench": "bench"}
+TRIED = {"crates": "gate", "tools": "tools"}
 
 
 def text_of(path):
@@ -28,12 +28,12 @@ def text_of(path):
 
 
 def paths():
-    return sorted(glob.glob(f"{ROOT}/crates/*/must-fail/*.edit") + glob.glob(f"{ROOT}/bench/edits/*/*.edit"))
+    return sorted(glob.glob(f"{ROOT}/crates/*/must-fail/*.edit") + glob.glob(f"{ROOT}/tools/proof/edits/*/*.edit"))
 
 
 def crate_and_name(path):
     steps = os.path.relpath(path, ROOT).split("/")
-    return steps[1 if steps[0] == "crates" else 2], steps[-1].removesuffix(".edit")
+    return steps[1 if steps[0] == "crates" else 3], steps[-1].removesuffix(".edit")
 
 
 def edits():

@@ -1,5 +1,5 @@
 #!/usr/bin/env python3
-"""Tells what the proofs of a crate took, by function and by kind: bench/proofs.py CRATE [LINES].
+"""Tells what the proofs of a crate took, by function and by kind: tools/proof/slow_proofs.py CRATE [LINES].
 
 A check keeps each module that it has checked in the crate's out/incremental, and one after another: so the time between two files is
 what the later one took. It is right for a first check on one processor (`rm -r out/incremental; rt check --jobs 1`); after an edit the
@@ -14,7 +14,7 @@ import os
 import re
 import sys
 
-ROOT = os.path.dirname(os.path.dirname(os.path.abspath(__file__)))
+ROOT = os.path.dirname(os.path.dirname(os.path.dirname(os.path.abspath(__file__))))
 # A module of a function: its name, and which part of its proof it is.
 PART = re.compile(
     r"^(.*?)\.(Answers|Code|Given|Goals|Invariants|Kinds|Layout|Lts|Met|Mir|Named|Proof|Reads|Statement|Symbol|TheLink|Tie)\b.*$"

@@ -1,5 +1,5 @@
 #!/usr/bin/env python3
-"""Tells whether two programs that read networks answer alike: bench/alike.py ONE OTHER [COUNT [FIRST]].
+"""Tells whether two programs that read networks answer alike: tools/test/alike.py ONE OTHER [COUNT [FIRST]].
 
 It makes COUNT networks by chance (1,000), numbered from FIRST on (1), and gives each to both programs: `check`, and where that accepts it
 `step` up to a few events and up to 20,000. A network of which the two print or answer differently is printed, as a file that can be

@@ -1,8 +1,8 @@
 #!/usr/bin/env python3
-"""Holds corners of the built program that no contract and no example has: bench/corners.py VCNET.
+"""Holds corners of the built program that no contract and no example has: tools/test/corners.py VCNET.
 
 A refused line of events is printed without its control characters. A name of a file of events that is no UTF-8 is told. Each run has the same
-output with a stack of 256 KB as with the usual one. The traffic takes little memory beside its messages. bench/memory.py calls it, on a program
+output with a stack of 256 KB as with the usual one. The traffic takes little memory beside its messages. tools/test/memory.py calls it, on a program
 that is built without its proofs. It says how many corners hold, and fails at the first that does not.
 
 Made with rattle-kit-13f, logic dac8208d650f15bf.
@@ -15,9 +15,11 @@ import subprocess
 import sys
 import tempfile
 
-import peak
+ROOT = pathlib.Path(__file__).resolve().parents[2]
+# Where peak.py and unproved.py are.
+sys.path += [str(ROOT / "bench"), str(ROOT / "tools")]
 
-ROOT = pathlib.Path(__file__).resolve().parent.parent
+import peak
 HELLO = (ROOT / "examples" / "hello.json").read_bytes()
 STACK = 256 * 1024
 # Lines of events, and what is printed of the first.

@@ -1,5 +1,5 @@
 #!/usr/bin/env python3
-"""Tells whether Graphviz takes what `vcnet draw` prints: bench/drawings.py VCNET [FOLDER].
+"""Tells whether Graphviz takes what `vcnet draw` prints: tools/test/drawings.py VCNET [FOLDER].
 
 It hands each network of examples/ that `VCNET check` accepts to `VCNET draw`, and to `VCNET draw --after N` for some N, and what that prints
 to `dot -Tsvg`. A network is printed, and the script fails, where VCNET ends with another status than 0, where dot fails or warns, or where
@@ -14,7 +14,7 @@ import os
 import subprocess
 import sys
 
-ROOT = os.path.dirname(os.path.dirname(os.path.abspath(__file__)))
+ROOT = os.path.dirname(os.path.dirname(os.path.dirname(os.path.abspath(__file__))))
 
 # after how many events a network is drawn: none, a few while credit comes and packets are under way, and more than an example has
 AFTER = (0, 5, 40, 200, 1000000)

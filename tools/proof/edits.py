@@ -1,7 +1,7 @@
 #!/usr/bin/env python3
-"""Tries a crate's edits, and tells what each costs to refuse, and why it is refused: bench/edits.py CRATE [EDIT..].
+"""Tries a crate's edits, and tells what each costs to refuse, and why it is refused: tools/proof/edits.py CRATE [EDIT..].
 
-The edits are those of the crate's must-fail/, which `rt ci` tries too, and those of bench/edits/CRATE, which it does not. It tries each
+The edits are those of the crate's must-fail/, which `rt ci` tries too, and those of tools/proof/edits/CRATE, which it does not. It tries each
 as `rt must-fail` does, over a copy of what `rt check` kept, so that no proof is made anew, and prints the processor
 time and the stages: `front-end` and `making` come with each check, `session` is the proof itself, and `offers` the printing of a proof
 file, which is made only where no file answers the goal that the edit breaks. The first line is a check without an edit. After each
@@ -22,7 +22,7 @@ import sys
 import tempfile
 
 KIT = "/opt/rattle/bin"
-ROOT = os.path.dirname(os.path.dirname(os.path.abspath(__file__)))
+ROOT = os.path.dirname(os.path.dirname(os.path.dirname(os.path.abspath(__file__))))
 TOLD = re.compile(r"(note: )?\S+:\d+:\d+:.*(error|it is not proved)|^(fn|struct|enum|impl) .*: not proved|^logic=")
 
 
@@ -81,7 +81,7 @@ def main(name, only):
         shutil.copytree(f"{crate.folder}/out/incremental", kept, dirs_exist_ok=True)
         check(rt, crate, {}, kept, "(none)")
         total, missed = 0.0, []
-        for edit in rt.edits_of(crate)[0] + sorted(glob.glob(f"{ROOT}/bench/edits/{name}/*.edit")):
+        for edit in rt.edits_of(crate)[0] + sorted(glob.glob(f"{ROOT}/tools/proof/edits/{name}/*.edit")):
             label = os.path.basename(edit).removesuffix(".edit")
             if not only or label in only:
                 texts, why = rt.read_edit(edit, crate.folder)

@@ -1,13 +1,13 @@
 #!/usr/bin/env python3
-"""Holds the documents against the repository: bench/documents.py. It prints a line for each of these, and fails where there is one:
+"""Holds the documents against the repository: tools/lint/documents.py. It prints a line for each of these, and fails where there is one:
 
 - a file or a source that a document names and that is not there, or a module of specs/ or proofs/ that its crate has not;
 - a crate that README.md or docs/ names as `vc_..` and that crates.txt has not;
 - a sentence of theirs with over 40 words;
 - a name between backticks (a function, a type, a clause, an edit) that no source, script, example or file has; words in capitals stand for
-  something else, and bench/format.py holds docs/FORMAT.md, REFUSALS.md and COMMANDS.md;
+  something else, and tools/lint/format.py holds docs/FORMAT.md, REFUSALS.md and COMMANDS.md;
 - a piece of Rattle in docs/CALLING.md that does not stand so in crates/vc_uses;
-- a script of bench/ that does not say with which kit it was made, as README.md names it.
+- a script of bench/ or tools/ that does not say with which kit it was made, as README.md names it.
 
 Made with rattle-kit-13f, logic dac8208d650f15bf.
 """
@@ -16,8 +16,8 @@ import os
 import re
 import sys
 
-ROOT = os.path.dirname(os.path.dirname(os.path.abspath(__file__)))
-DOCUMENTS = ["README.md", "bench/README.md", *sorted(os.path.relpath(it, ROOT) for it in glob.glob(f"{ROOT}/docs/**/*.md", recursive=True))]
+ROOT = os.path.dirname(os.path.dirname(os.path.dirname(os.path.abspath(__file__))))
+DOCUMENTS = ["README.md", "bench/README.md", "tools/README.md", *sorted(os.path.relpath(it, ROOT) for it in glob.glob(f"{ROOT}/docs/**/*.md", recursive=True))]
 SOURCES = [os.path.relpath(it, ROOT) for it in glob.glob(f"{ROOT}/crates/*/*/**/*.*t", recursive=True)]
 WORDS = 40
 # Names of the toolchain, of the system, and of what is yet to come.
@@ -30,9 +30,9 @@ def text_of(path):
 
 
 def missing_files(path, text):
-    for name in sorted(set(re.findall(r"[\w./-]+\.(?:md|py|json|sh)\b|\bbench/edits/\w+", text))):
+    for name in sorted(set(re.findall(r"[\w./-]+\.(?:md|py|json|sh)\b|\btools/proof/edits/\w+", text))):
         name = name.removeprefix("../../")
-        places = [name, f"docs/{name}", f"bench/{name}", f"examples/{name}", os.path.join(os.path.dirname(path), name)]
+        places = [name, f"docs/{name}", f"bench/{name}", f"tools/{name}", *[f"tools/{it}/{name}" for it in ("lint", "proof", "test")], f"examples/{name}", os.path.join(os.path.dirname(path), name)]
         if not any(os.path.exists(f"{ROOT}/{it}") for it in places) and "CRATE" not in name:
             yield f"{path}: {name} is not there"
     for name in sorted(set(re.findall(r"[\w./-]+\.(?:rt|antt)\b", text))):
@@ -64,8 +64,8 @@ def strange_code(path, text):
 def names():
     """The words of all sources, scripts and networks, and of the names of files."""
     crates = [it for kind in ("src", "specs", "proofs") for it in glob.glob(f"{ROOT}/crates/*/{kind}/**/*", recursive=True)]
-    scripts = [*glob.glob(f"{ROOT}/bench/*"), *glob.glob(f"{ROOT}/tools/*"), *glob.glob(f"{ROOT}/examples/**/*", recursive=True), f"{ROOT}/crates.txt", f"{ROOT}/.ci/run"]
-    edits = [*glob.glob(f"{ROOT}/crates/*/must-fail/*"), *glob.glob(f"{ROOT}/bench/**/*", recursive=True), *glob.glob(f"{ROOT}/docs/*")]
+    scripts = [*glob.glob(f"{ROOT}/bench/*"), *glob.glob(f"{ROOT}/tools/*"), *glob.glob(f"{ROOT}/tools/*/*.py"), *glob.glob(f"{ROOT}/examples/**/*", recursive=True), f"{ROOT}/crates.txt", f"{ROOT}/.ci/run"]
+    edits = [*glob.glob(f"{ROOT}/crates/*/must-fail/*"), *[it for at in ("bench", "tools") for it in glob.glob(f"{ROOT}/{at}/**/*", recursive=True)], *glob.glob(f"{ROOT}/docs/*")]
     found = {word for it in [*crates, *scripts, *edits] for word in re.findall(r"\w+", it)}
     for it in crates + scripts:
         if os.path.isfile(it):
@@ -107,7 +107,7 @@ def missing_specs(path, text):
 
 def made_with_another_kit():
     kit = re.search(r"`rt version`: (rattle-\S+), logic (\w+)", text_of("README.md"))
-    for path in sorted(glob.glob(f"{ROOT}/bench/*.py") + glob.glob(f"{ROOT}/bench/*.sh")):
+    for path in sorted(it for at in ("bench/*", "tools/*", "tools/*/*") for it in glob.glob(f"{ROOT}/{at}") if it.endswith((".py", ".sh"))):
         name = os.path.relpath(path, ROOT)
         if f"Made with {kit[1]}, logic {kit[2]}." not in text_of(name):
             yield f"{name} does not say with which kit it was made"

@@ -1,5 +1,5 @@
 #!/usr/bin/env python3
-"""Shows what one must believe for a promise: bench/reading.py [CALL | --write].
+"""Shows what one must believe for a promise: tools/lint/reading.py [CALL | --write].
 
 With the name of a call it prints the definitions that the call rests on, with their comments, lowest crate first.
 
@@ -18,7 +18,7 @@ import os
 import re
 import sys
 
-ROOT = os.path.dirname(os.path.dirname(os.path.abspath(__file__)))
+ROOT = os.path.dirname(os.path.dirname(os.path.dirname(os.path.abspath(__file__))))
 PAGE = f"{ROOT}/docs/PROMISES.md"
 # The promises, in the order in which one reads: the function, and the file that has it. Those before `check` are of a plan that it accepted.
 PROMISES = [
@@ -215,7 +215,7 @@ def main():
     asked = [it for it in rows if it.function in sys.argv[1:]]
     if asked:
         return read_aloud(asked[0], found)
-    mark, end = "<!-- made by bench/reading.py --write -->\n", "<!-- end -->\n"
+    mark, end = "<!-- made by tools/lint/reading.py --write -->\n", "<!-- end -->\n"
     front, _, rest = open(PAGE, encoding="utf-8").read().partition(mark)
     old, _, after = rest.partition(end)
     if "--write" in sys.argv:

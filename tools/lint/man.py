@@ -1,5 +1,5 @@
 #!/usr/bin/env python3
-"""Makes docs/vcnet.1, the page of `man`, of the texts that vcnet prints for --help: bench/man.py [--write].
+"""Makes docs/vcnet.1, the page of `man`, of the texts that vcnet prints for --help: tools/lint/man.py [--write].
 
 The texts are in crates/vc_words/src/definition.rt, which describes the command line to clap. Without --write it fails if the page is
 other than what they make; with --write it writes the page. `man -l docs/vcnet.1` shows it.
@@ -10,7 +10,7 @@ import os
 import re
 import sys
 
-ROOT = os.path.dirname(os.path.dirname(os.path.abspath(__file__)))
+ROOT = os.path.dirname(os.path.dirname(os.path.dirname(os.path.abspath(__file__))))
 SOURCE = f"{ROOT}/crates/vc_words/src/definition.rt"
 PAGE = f"{ROOT}/docs/vcnet.1"
 TEXT = r'"((?:[^"\\]|\\[\s\S])*)"'
@@ -120,7 +120,7 @@ def page(source):
     every = commands(source)
     (_, about, paragraphs, _), others = every[0], every[1:]
     statuses = [it.split(" ", 1) for it in part(paragraphs, "Exit status").rstrip(".").split("; ")]
-    lines = [r'.\" Made by bench/man.py of crates/vc_words/src/definition.rt.', f'.TH VCNET 1 "" "vcnet {constants(source)["VERSION"]}"']
+    lines = [r'.\" Made by tools/lint/man.py of crates/vc_words/src/definition.rt.', f'.TH VCNET 1 "" "vcnet {constants(source)["VERSION"]}"']
     lines += [".SH NAME", rf"vcnet \- {roff(about[0].lower() + about[1:])}", ".SH SYNOPSIS"]
     for name, _, _, rows in others:
         lines += [synopsis(name, rows), ".br"]
@@ -139,7 +139,7 @@ def main():
         with open(PAGE, "w", encoding="utf-8") as it:
             it.write(wanted)
     elif not os.path.exists(PAGE) or text_of(PAGE) != wanted:
-        print("docs/vcnet.1 is not that of the texts: bench/man.py --write")
+        print("docs/vcnet.1 is not that of the texts: tools/lint/man.py --write")
         return 1
     print("docs/vcnet.1: 0 faults")
     return 0

@@ -1,5 +1,5 @@
 #!/usr/bin/env python3
-"""Holds the examples of docs/FORMAT.md, REFUSALS.md and COMMANDS.md, and the blocks of docs/TUTORIAL.md, against examples/: bench/format.py. It prints a line for each of
+"""Holds the examples of docs/FORMAT.md, REFUSALS.md and COMMANDS.md, and the blocks of docs/TUTORIAL.md, against examples/: tools/lint/format.py. It prints a line for each of
 these, and fails where there is one:
 
 - a row of a table whose first column is "Example": a piece in it that its network's file has not, words with which examples/index.txt
@@ -15,7 +15,7 @@ import os
 import re
 import sys
 
-ROOT = os.path.dirname(os.path.dirname(os.path.abspath(__file__)))
+ROOT = os.path.dirname(os.path.dirname(os.path.dirname(os.path.abspath(__file__))))
 PAGES = ["docs/FORMAT.md", "docs/REFUSALS.md", "docs/COMMANDS.md"]
 TUTORIAL = "docs/TUTORIAL.md"
 PRINTED = re.compile(r"(channel|refused|cycle|free|graph|accepted|event|end)\b")

@@ -1,5 +1,5 @@
 #!/usr/bin/env python3
-"""Prints the completions of vcnet for a shell: bench/completions.py bash|zsh|fish.
+"""Prints the completions of vcnet for a shell: tools/lint/completions.py bash|zsh|fish.
 
 They are made of the texts of crates/vc_words/src/definition.rt, as the man page is. tools/install puts them in their places.
 

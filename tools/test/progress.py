@@ -1,5 +1,5 @@
 #!/usr/bin/env python3
-"""Looks at the line by which a long run shows how far it is: bench/progress.py VCNET.
+"""Looks at the line by which a long run shows how far it is: tools/test/progress.py VCNET.
 
 It runs a process that never ends, with standard error on a terminal of its own or in a pipe, and with `--progress` and `--no-progress`.
 Where a line is wanted it must be there, must say what is counted, and must be cleared at the end. Where none is wanted nothing may be

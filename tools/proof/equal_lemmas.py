@@ -1,5 +1,5 @@
 #!/usr/bin/env python3
-"""Tells which lemmas say the same: bench/lemmas.py [MOST].
+"""Tells which lemmas say the same: tools/proof/equal_lemmas.py [MOST].
 
 Two lemmas of the crates' proofs say the same where their statements differ in the names of their variables alone. A lemma that std
 has under `std/proofs` is named, too. It shows the groups with the most lines to save, 40 or MOST of them. A lemma can be shared by
@@ -13,7 +13,7 @@ import os
 import re
 import sys
 
-ROOT = os.path.dirname(os.path.dirname(os.path.abspath(__file__)))
+ROOT = os.path.dirname(os.path.dirname(os.path.dirname(os.path.abspath(__file__))))
 STD = "/opt/rattle/rattle/std/proofs"
 # The head of a statement: its indent, what stands before its name, the name, and the type as far as the line goes.
 HEAD = re.compile(r"^( *)((?:pub |abbrev |unfoldable )*)([^\s:(){}]+) : (.*)$")

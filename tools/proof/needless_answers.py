@@ -1,5 +1,5 @@
 #!/usr/bin/env python3
-"""Tells which answers of a crate its check does not need: bench/answers.py CRATE.
+"""Tells which answers of a crate its check does not need: tools/proof/needless_answers.py CRATE.
 
 It checks a copy of the crate without any answer, and lists each answer of the crate whose goal is proved all the same, with its line.
 The crates below must have been checked before. The check has `--margin`, which halves the limits of the searches, so that what is proved
@@ -18,7 +18,7 @@ import sys
 import tempfile
 
 KIT = "/opt/rattle/bin"
-ROOT = os.path.dirname(os.path.dirname(os.path.abspath(__file__)))
+ROOT = os.path.dirname(os.path.dirname(os.path.dirname(os.path.abspath(__file__))))
 GOAL = re.compile(r"(?:pub )?(\S+) : goal\.")
 # What a check says of a function whose goals are open: the file that should answer them, and their names.
 OPEN = re.compile(r"no proof: .*?expected answers in \./(\S+?Answers\.antt)(.*)")

@@ -1,7 +1,7 @@
 #!/usr/bin/env python3
 """Makes each allocation of the tests of memory fail in turn.
 
-Usage: bench/memory_tests.py. The tests are those of vc_network_tests and vc_tests whose module or name says memory. They hold with
+Usage: tools/test/memory_tests.py. The tests are those of vc_network_tests and vc_tests whose module or name says memory. They hold with
 ample memory, as `rt ci` runs them, and are to hold where any one allocation is refused. They are built without their proofs, once,
 and each runs as often as it makes allocations. `rt try --test --fail-alloc N` does the same for one N, but builds the tests anew.
 

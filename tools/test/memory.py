@@ -1,8 +1,8 @@
 #!/usr/bin/env python3
-"""Refuses each allocation in turn, of the program and of the tests of memory: bench/memory.py.
+"""Refuses each allocation in turn, of the program and of the tests of memory: tools/test/memory.py.
 
 It builds `vcnet`, and the tests of vc_network_tests and vc_tests, without their proofs and side by side. Then it sweeps some networks as
-bench/allocations.py does, and each test whose name has `memory` as bench/memory_tests.py does, and holds the corners of bench/corners.py.
+tools/test/allocations.py does, and each test whose name has `memory` as tools/test/memory_tests.py does, and holds the corners of tools/test/corners.py.
 .ci/run runs it where there is a C compiler: there `fault memory`, `end memory` and status 4 are printed each time. It fails if a run is
 neither whole nor refused. If a program cannot be built without its proofs, it says so and sweeps nothing: the gate then judges the code.
 

@@ -1,7 +1,7 @@
 #!/usr/bin/env python3
 """Makes each allocation of a run fail in turn.
 
-Usage: bench/allocations.py VCNET [NETWORK..], VCNET being the built program (crates/vcnet/out/vcnet), the networks those of
+Usage: tools/test/allocations.py VCNET [NETWORK..], VCNET being the built program (crates/vcnet/out/vcnet), the networks those of
 examples/ where none is named. Each check, explanation, search for a cycle, drawing and run by step, with what its flags add, must print what it
 prints with ample memory, or that memory is short, with status 4. So must a replay of the first 1,000 events of that run. A traced
 run by step may print the lines of its first events before that, each whole. Where the line of a refusal finds no memory, nothing is printed,
@@ -16,6 +16,10 @@ import re
 import subprocess
 import sys
 import tempfile
+
+ROOT = pathlib.Path(__file__).resolve().parents[2]
+# Where peak.py and unproved.py are.
+sys.path += [str(ROOT / "bench"), str(ROOT / "tools")]
 
 import peak
 
@@ -49,7 +53,6 @@ void _exit(int status) {
     for (;;) syscall(SYS_exit_group, status);
 }
 """
-ROOT = pathlib.Path(__file__).resolve().parent.parent
 SHORT = (b"fault memory\n", 4)
 WORDS = (
     "check", "explain", "deadlock", "draw", "draw --after 100", "step", "step --why", "step --trace", "step --trace --why", "step --stats",

@@ -1,5 +1,5 @@
 #!/usr/bin/env python3
-"""Tells whether networks do the same as one node: bench/together.py VCNET [COUNT [FIRST]].
+"""Tells whether networks do the same as one node: tools/test/together.py VCNET [COUNT [FIRST]].
 
 It makes COUNT networks by chance (2,000), numbered from FIRST on (1), whose labels deliver, which `deadlock` calls free, of processes
 without ALT and `stopch`, and runs each by `step` and by `step --together`. Where both come to rest, each channel must have the same messages taken in the same order,

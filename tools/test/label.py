@@ -1,5 +1,5 @@
 #!/usr/bin/env python3
-"""Tries `vcnet label` on topologies, and measures what it makes: bench/label.py VCNET [COUNT [FIRST]].
+"""Tries `vcnet label` on topologies, and measures what it makes: tools/test/label.py VCNET [COUNT [FIRST]].
 
 Without COUNT it takes networks that people know (rows, rings, trees, grids, tori, hypercubes, Clos networks, regular graphs by chance) and
 prints a line for each: how many switches packets pass, all ordered pairs of nodes on an average, by the shortest paths and by the labels,
