@@ -85,14 +85,15 @@ stuck_json plan all schedule parts =
     codes "{\"stuck\":{\"moves\":[" ++ flat_map (move_item plan all) (enumerate_from 0 schedule) ++ codes "],\"waits\":["
     ++ flat_map (blocked_item plan all schedule) (enumerate_from 0 parts) ++ codes "]}"
 
--- whether each schedule ends
-abbrev pub ends_json : Ends → List ℕ
-ends_json Always = codes "\"always\""
-ends_json (MayGoOn n circle) = codes "{\"on_after\":" ++ decimal n ++ codes "}"
+-- whether each schedule ends; if not, the moves of a circle
+abbrev pub ends_json : Plan → Paths → Ends → List ℕ
+ends_json plan all Always = codes "\"always\""
+ends_json plan all (MayGoOn n circle) =
+    codes "{\"on_after\":" ++ decimal n ++ codes ",\"moves\":[" ++ flat_map (move_item plan all) (enumerate_from 0 circle) ++ codes "]}"
 
 -- the first members: what is said of the processes
 abbrev pub verdict_json : Plan → Paths → Verdict → List ℕ
-verdict_json plan all (NeverStuck ends) = codes "{\"stuck\":null,\"ends\":" ++ ends_json ends
+verdict_json plan all (NeverStuck ends) = codes "{\"stuck\":null,\"ends\":" ++ ends_json plan all ends
 verdict_json plan all (Stuck schedule parts) = stuck_json plan all schedule parts
 verdict_json plan all (NotStuckWithin n) = codes "{\"within\":" ++ decimal n
 

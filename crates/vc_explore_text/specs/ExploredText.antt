@@ -77,17 +77,17 @@ abbrev pub stuck_text : Plan → Paths → List Scheduled → List BlockedPart �
 stuck_text plan all schedule parts =
     count_line (codes "stuck after ") (length schedule) ++ flat_map (move_line plan all) schedule ++ flat_map (blocked_line plan all schedule) parts
 
--- whether each schedule ends
-abbrev pub ends_text : Ends → List ℕ
-ends_text Always = codes "always ends\n"
-ends_text (MayGoOn n circle) = count_line (codes "may go on for ever after ") n
+-- whether each schedule ends; if not, the moves of a circle
+abbrev pub ends_text : Plan → Paths → Ends → List ℕ
+ends_text plan all Always = codes "always ends\n"
+ends_text plan all (MayGoOn n circle) = count_line (codes "may go on for ever after ") n ++ flat_map (move_line plan all) circle
 
-abbrev pub never_text : Ends → List ℕ
-never_text ends = codes "never stuck\n" ++ ends_text ends
+abbrev pub never_text : Plan → Paths → Ends → List ℕ
+never_text plan all ends = codes "never stuck\n" ++ ends_text plan all ends
 
 -- what is said of the processes
 abbrev pub verdict_text : Plan → Paths → Verdict → List ℕ
-verdict_text plan all (NeverStuck ends) = never_text ends
+verdict_text plan all (NeverStuck ends) = never_text plan all ends
 verdict_text plan all (Stuck schedule parts) = stuck_text plan all schedule parts
 verdict_text plan all (NotStuckWithin n) = count_line (codes "not stuck within ") n
 

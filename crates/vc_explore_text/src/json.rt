@@ -305,17 +305,25 @@ fn push_stuck(
     Ok(())
 }
 
-/// Whether each schedule ends.
+/// Whether each schedule ends, and if not, the moves of a circle.
 #[tactic(auto, using(std::proofs::Common::append_assoc))]
-fn push_ends(out: &mut Vec<u8>, ends: &Ends) -> Result<(), Memory>
-    ensures { OnOk result (out.new.items ≡ out.old.items ++ ends_json ends.now) }
+fn push_ends(
+    alloc: Global,
+    out: &mut Vec<u8>,
+    plan: &Plan,
+    all: &[Items<Bytes>],
+    ends: &Ends,
+) -> Result<(), Memory>
+    ensures { OnOk result (out.new.items ≡ out.old.items ++ ends_json plan.now all.now ends.now) }
 {
     match ends {
         Ends::Always => out.extend_from_slice(b"\"always\"")?,
-        Ends::MayGoOn { moves, circle: _ } => {
+        Ends::MayGoOn { moves, circle } => {
             out.extend_from_slice(b"{\"on_after\":")?;
             push_number(out, *moves as u64)?;
-            out.extend_from_slice(b"}")?;
+            out.extend_from_slice(b",\"moves\":[")?;
+            push_moves(alloc, out, plan, all, circle.as_slice())?;
+            out.extend_from_slice(b"]}")?;
         }
     }
     Ok(())
@@ -332,15 +340,16 @@ fn push_verdict(
     ensures { OnOk result (out.new.items ≡ out.old.items
         ++ verdict_json plan.now (paths_in plan.now) verdict.now) }
 {
+    let paths = node_paths(alloc, plan)?;
+    let all = paths.as_slice();
     match verdict {
         Verdict::NeverStuck { ends } => {
             out.extend_from_slice(b"{\"stuck\":null,\"ends\":")?;
-            push_ends(out, ends)?;
+            push_ends(alloc, out, plan, all, ends)?;
         }
         Verdict::Stuck { schedule, blocked } => {
-            let all = node_paths(alloc, plan)?;
             let (schedule, parts) = (schedule.as_slice(), blocked.as_slice());
-            return push_stuck(alloc, out, plan, all.as_slice(), schedule, parts);
+            return push_stuck(alloc, out, plan, all, schedule, parts);
         }
         Verdict::NotStuckWithin { moves } => {
             out.extend_from_slice(b"{\"within\":")?;

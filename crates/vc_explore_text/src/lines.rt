@@ -266,28 +266,43 @@ fn push_stuck(
     Ok(())
 }
 
-/// The line on whether each schedule ends.
-fn push_ends(out: &mut Vec<u8>, ends: &Ends) -> Result<(), Memory>
-    ensures { OnOk result (out.new.items ≡ out.old.items ++ ends_text ends.now) }
+/// The lines on whether each schedule ends, and if not, of the moves of a circle.
+#[tactic(auto, using(std::proofs::Common::append_assoc))]
+fn push_ends(
+    alloc: Global,
+    out: &mut Vec<u8>,
+    plan: &Plan,
+    all: &[Items<Bytes>],
+    ends: &Ends,
+) -> Result<(), Memory>
+    ensures { OnOk result (out.new.items ≡ out.old.items ++ ends_text plan.now all.now ends.now) }
 {
     match ends {
         Ends::Always => {
             out.extend_from_slice(b"always ends\n")?;
             Ok(())
         }
-        Ends::MayGoOn { moves, circle: _ } => {
-            push_count(out, b"may go on for ever after ", *moves)
+        Ends::MayGoOn { moves, circle } => {
+            push_count(out, b"may go on for ever after ", *moves)?;
+            push_moves(alloc, out, plan, all, circle.as_slice())
         }
     }
 }
 
 /// The lines of a program that never gets stuck.
 #[tactic(auto, using(std::proofs::Common::append_assoc))]
-fn push_never(out: &mut Vec<u8>, ends: &Ends) -> Result<(), Memory>
-    ensures { OnOk result (out.new.items ≡ out.old.items ++ never_text ends.now) }
+#[tactic(auto, using(std::proofs::Common::append_assoc))]
+fn push_never(
+    alloc: Global,
+    out: &mut Vec<u8>,
+    plan: &Plan,
+    all: &[Items<Bytes>],
+    ends: &Ends,
+) -> Result<(), Memory>
+    ensures { OnOk result (out.new.items ≡ out.old.items ++ never_text plan.now all.now ends.now) }
 {
     out.extend_from_slice(b"never stuck\n")?;
-    push_ends(out, ends)
+    push_ends(alloc, out, plan, all, ends)
 }
 
 /// The lines of a verdict.
@@ -300,12 +315,13 @@ fn push_verdict(
     ensures { OnOk result (out.new.items ≡ out.old.items
         ++ verdict_text plan.now (paths_in plan.now) verdict.now) }
 {
+    let paths = node_paths(alloc, plan)?;
+    let all = paths.as_slice();
     match verdict {
-        Verdict::NeverStuck { ends } => push_never(out, ends),
+        Verdict::NeverStuck { ends } => push_never(alloc, out, plan, all, ends),
         Verdict::Stuck { schedule, blocked } => {
-            let all = node_paths(alloc, plan)?;
             let (schedule, parts) = (schedule.as_slice(), blocked.as_slice());
-            push_stuck(alloc, out, plan, all.as_slice(), schedule, parts)
+            push_stuck(alloc, out, plan, all, schedule, parts)
         }
         Verdict::NotStuckWithin { moves } => push_count(out, b"not stuck within ", *moves),
     }

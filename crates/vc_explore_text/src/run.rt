@@ -9,11 +9,22 @@ use crate::lines::explored_text;
 use std::alloc::Global;
 use std::io::{Read, Write};
 use vc_cycles::find_cycle;
-use vc_explore::{Explored, Verdict, explore};
+use vc_explore::{Explored, Verdict, Watch, explore};
 use vc_packets::Memory;
 use vc_plan::{Plan, Port};
 use vc_stats::Form;
-use vc_text::{RunFault, read_accepted, write_text};
+use vc_text::{Meter, RunFault, read_accepted, write_text};
+
+/// A meter that shows how many states were looked at.
+struct Metered<'a> {
+    meter: &'a Meter,
+}
+
+impl Watch for Metered<'_> {
+    fn looked(&self, states: usize) {
+        self.meter.set(states as u64);
+    }
+}
 
 /// What is known of a network's runs.
 fn finding_of(verdict: &Verdict, cycle: Option<&[Port]>) -> Finding
@@ -72,7 +83,7 @@ fn write_explored<W: Write>(
 
 /// Reads a network file, explores the schedules of an accepted network's program, and writes what was found: whether a schedule gets the
 /// program stuck, and a shortest one that does, whether packets might wait for one another in a circle, and how many states were kept. At
-/// most `most` states are looked at. The answer is what is known of the network's runs.
+/// most `most` states are looked at, and the meter notes how many have been. The answer is what is known of the network's runs.
 ///
 /// # Errors
 ///
@@ -84,13 +95,14 @@ pub fn run_explore<R: Read, W: Write>(
     writer: &mut W,
     most: usize,
     form: Form,
+    meter: &Meter,
 ) -> Result<Finding, RunFault>
     requires { 0 < most }
     ensures { TellsExplored form (R.remaining reader.old)
         (W.contents writer.old) (W.contents writer.new) result }
 {
     let accepted = read_accepted(alloc, reader)?;
-    let explored = explore(alloc, &accepted, most)?;
+    let explored = explore(alloc, &accepted, most, &Metered { meter })?;
     let found = find_cycle(alloc, &accepted)?;
     let cycle = ports_of(&found);
     match write_explored(alloc, accepted.plan(), &explored, cycle, writer, form) {
