@@ -291,7 +291,6 @@ fn push_ends(
 
 /// The lines of a program that never gets stuck.
 #[tactic(auto, using(std::proofs::Common::append_assoc))]
-#[tactic(auto, using(std::proofs::Common::append_assoc))]
 fn push_never(
     alloc: Global,
     out: &mut Vec<u8>,

@@ -16,6 +16,7 @@ use vc_stats::Form;
 use vc_text::{Meter, RunFault, read_accepted, write_text};
 
 /// A meter that shows how many states were looked at.
+#[derive(Drop)]
 struct Metered<'a> {
     meter: &'a Meter,
 }
@@ -102,7 +103,8 @@ pub fn run_explore<R: Read, W: Write>(
         (W.contents writer.old) (W.contents writer.new) result }
 {
     let accepted = read_accepted(alloc, reader)?;
-    let explored = explore(alloc, &accepted, most, &Metered { meter })?;
+    let metered = Metered { meter };
+    let explored = explore(alloc, &accepted, most, &metered)?;
     let found = find_cycle(alloc, &accepted)?;
     let cycle = ports_of(&found);
     match write_explored(alloc, accepted.plan(), &explored, cycle, writer, form) {
