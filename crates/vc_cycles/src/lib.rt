@@ -7,7 +7,12 @@
 #![tactic(auto)]
 
 mod cycle;
+mod follow;
 mod graph;
+mod known;
+mod mark;
+mod marks;
+mod meetings;
 mod number;
 mod round;
 mod search;
