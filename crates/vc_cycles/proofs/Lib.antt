@@ -2,8 +2,11 @@ pub mod Among
 pub mod Departures
 pub mod PortNumbers
 pub mod Edges
-pub mod PlaceSets
-pub mod PlaceSearch
+pub mod Comings
+pub mod Filling
+pub mod Gains
+pub mod Likes
+pub mod Represented
 pub mod CycleSearch
 pub mod Orders
 pub mod Ways

@@ -1,4 +1,5 @@
 -- What only private functions, invariants and proofs cite.
+pub mod Following
 pub mod Graph
 pub mod Round
 pub mod Search

@@ -6,16 +6,15 @@ use Rattle.vc_plan.specs.declared.fault.Fault.{Fault}
 use Rattle.vc_plan.specs.declared.switch_plan.SwitchPlan.{SwitchPlan}
 use Rattle.vc_plan.specs.declared.port.Spot.{Spot}
 use Rattle.vc_plan.specs.declared.port.Spot.TheVariants.{Node, Switch}
-use Rattle.vc_plan.specs.declared.level.Entry.{Entry}
+use Rattle.vc_plan.specs.declared.entry.Entry.{Entry}
 use Rattle.vc_plan.specs.declared.search.Shown.{Shown}
-use Rattle.vc_plan.specs.declared.search.Faulty.{Faulty}
-use Rattle.vc_plan.specs.Faults.{IsDrawnAt, fault_at, shown_at, at_node, ValueBefore, Before}
+use Rattle.vc_plan.specs.Faults.{IsDrawnAt, fault_at, shown_at, at_node, ValueBefore}
 use Rattle.vc_plan.specs.Hops.{range_in}
 use Rattle.vc_plan.specs.Wires.{switch_at}
 use Rattle.vc_plan.specs.Search.{values}
 use Rattle.vc_plan.specs.Private.Search.{value_shown, first_value_shown, shown_in, shown_by}
 use Rattle.vc_plan.proofs.Members.{In, Pairs}
-use Rattle.vc_plan.proofs.Onward.{values-In, In-values, values-rise, EntryBefore}
+use Rattle.vc_plan.proofs.Onward.{values-In, In-values, values-rise}
 
 module _ (plan : Option SwitchPlan) (made : ℕ) (e : Entry) where
   abbrev at : Option ℕ → Option Fault

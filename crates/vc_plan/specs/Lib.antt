@@ -1,4 +1,5 @@
 pub mod Accepted
+pub mod Alike
 pub mod Check
 pub mod Deletions
 pub mod Delivery
@@ -11,7 +12,6 @@ pub mod Labelling
 pub mod Limits
 pub mod Names
 pub mod OneNode
-pub mod Places
 pub mod Private
 pub mod Refusals
 pub mod Search

@@ -58,7 +58,7 @@ pub(crate) fn random_range(inputs: &[RandomInput], link: u8) -> Option<RandomInp
 }
 
 /// Whether an output deletes the front header.
-pub(crate) fn does_delete(links: &[u8], link: u8) -> bool
+pub fn does_delete(links: &[u8], link: u8) -> bool
     ensures { result ≡ deletes links.now link }
 {
     for other in links {

@@ -21,10 +21,12 @@
 #![tactic(auto)]
 
 mod accepted;
+mod alike;
 mod arrival;
 mod channel;
 mod check_refused;
 mod checker;
+mod entry;
 mod explore;
 mod fault;
 mod follow;
@@ -32,7 +34,6 @@ mod hops;
 mod labelling;
 mod laws;
 mod least_path;
-mod level;
 mod limit_word;
 mod mark;
 mod name;
@@ -56,12 +57,13 @@ mod way_length;
 mod wiring;
 
 pub use accepted::Accepted;
+pub use alike::are_like_links;
 pub use channel::{Channel, Home};
 pub use check_refused::{CheckRefused, Refusal};
 pub use checker::check;
-pub use hops::far_end;
+pub use entry::Entry;
+pub use hops::{does_delete, far_end};
 pub use laws::{cycles_are_right, refusals_are_right};
-pub use level::{Entry, Level};
 pub use limit_word::LimitWord;
 pub use name::Name;
 pub use node_plan::{NodePlan, Variable};

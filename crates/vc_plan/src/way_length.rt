@@ -9,9 +9,9 @@ ghost use Rattle.vc_plan.specs.Private.Paths.{IsDelivering, IsNever, IsSometime,
 ghost use Rattle.vc_plan.specs.Wires.{across, sending_port};
 
 use crate::arrival::arrives_surveyed;
+use crate::entry::Entry;
 use crate::hops::far_end;
 use crate::least_path::Quest;
-use crate::level::Entry;
 use crate::port::{Port, Spot};
 use crate::search::first_place;
 use crate::searched_plan::SearchedPlan;

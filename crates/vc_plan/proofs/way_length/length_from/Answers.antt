@@ -1,5 +1,5 @@
 use Rattle.std.proofs.Common.{ℕ, ◌<◌, subst}
-use Rattle.vc_plan.specs.declared.level.Entry.{Entry}
+use Rattle.vc_plan.specs.declared.entry.Entry.{Entry}
 use Rattle.vc_plan.specs.Private.Paths.{IsNever, IsSometime}
 use Rattle.vc_plan.proofs.Arriving.{bounds-are, some-arrives}
 use Rattle.vc_plan.proofs.KeptLimits.{limits_of}
