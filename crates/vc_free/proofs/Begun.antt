@@ -1,8 +1,9 @@
 -- A process runs as if each output began where it is taken, and each input where it has its message: what began before is put off.
-use Rattle.std.proofs.Common.{◌≡◌, ℕ, Bool, true, false, ◌==◌, List, [], ◌∷◌, ◌++◌, Some, arith, eq-eqb, if◌then◌else◌}
+use Rattle.std.proofs.Common.{◌≡◌, ℕ, Bool, true, false, ◌==◌, List, [], ◌∷◌, ◌++◌, Some, None, arith, eq-eqb, if◌then◌else◌, sym, subst}
 use Rattle.vc_process.specs.declared.datum.Datum.{Datum}
 use Rattle.vc_process.specs.Values.{Store}
 use Rattle.vc_occam.specs.Completeness.{Steps, no_more, one_more}
+use Rattle.vc_free.specs.Rest.{IsAtOnce, StepsAtOnce, none_made, one_made}
 use Rattle.vc_free.specs.Private.Delays.{plain_quiet, plain_finish, plain_want, plain_choose, plain_stop, after_output, before_end}
 use Rattle.vc_occam.specs.InUse.{UsesLawfully}
 use Rattle.vc_occam.specs.Remains.{Rest}
@@ -11,6 +12,7 @@ use Rattle.vc_occam.specs.SiteActions as action
 use Rattle.vc_occam.specs.States.{State, StepsTo}
 use Rattle.vc_occam.specs.Traces.{Comm, Out, Fin, In, Stp}
 use Rattle.vc_occam.proofs.Counts.{out_of, fin_of}
+use Rattle.vc_occam.proofs.MoveActs.{Says, says}
 use Rattle.vc_free.proofs.Delays.{delay}
 use Rattle.vc_occam.proofs.Independence.{Swap, swap_here, swap_later, an_output, an_end}
 use Rattle.vc_occam.proofs.Preservation.{lawful, step_uses}
@@ -44,10 +46,44 @@ as_steps still = no_more
 as_steps (quiet st h) = one_more st (as_steps h)
 as_steps (tells w st h) = one_more st (as_steps h)
 
+told_at_once : {d : SiteAction} {k : Comm} → Tells d k → IsAtOnce d
+told_at_once tells_out = tt
+told_at_once tells_end = tt
+told_at_once tells_want = tt
+told_at_once tells_choose = tt
+told_at_once tells_stop = tt
+
+pub at_once : {s t : State} {ks : List Comm} → Path s ks t → StepsAtOnce s ks t
+at_once still = none_made
+at_once (quiet st h) = one_made tt st (at_once h)
+at_once (tells w st h) = one_made (told_at_once w) st (at_once h)
+
+module _ {s t u : State} {i : ℕ} {ks ls : List Comm} (h : Path t ls u) where
+  rests : ks ≡ [] → StepsTo s i action.Quiet ks t → Path s (ks ++ ls) u
+  rests e st = subst (λ z. Path s (z ++ ls) u) (sym e) (quiet (subst (λ z. StepsTo s i action.Quiet z t) e st) h)
+
+  says_one : {d : SiteAction} {k : Comm} → Tells d k → ks ≡ k ∷ [] → StepsTo s i d ks t → Path s (ks ++ ls) u
+  says_one {d = d} w e st = subst (λ z. Path s (z ++ ls) u) (sym e) (tells w (subst (λ z. StepsTo s i d z t) e st) h)
+
+  by_action : (d : SiteAction) → IsAtOnce d → Says d ks → StepsTo s i d ks t → Path s (ks ++ ls) u
+  by_action action.Quiet a e st = rests e st
+  by_action (action.Offer c) a (x, e) st = says_one tells_out e st
+  by_action action.Finish a (c, e) st = says_one tells_end e st
+  by_action (action.Want c (Some m)) a (x, e) st = says_one tells_want e st
+  by_action (action.Want c None) a e st = absurd a
+  by_action (action.Choose k c (Some m)) a (x, e) st = says_one tells_choose e st
+  by_action (action.Choose k c None) a e st = absurd a
+  by_action (action.Message m) a e st = absurd a
+  by_action (action.StopChannel c) a e st = says_one tells_stop e st
+
+pub as_path : {s t : State} {ks : List Comm} → StepsAtOnce s ks t → Path s ks t
+as_path none_made = still
+as_path (one_made {d = d} a st h) = by_action (as_path h) d a (says st) st
+
 abbrev state : Rest → Store → State
 state r e = record { rest = r; store = e }
 
-abbrev Offering : State → ℕ → ℕ → Datum → State → Type 0
+abbrev pub Offering : State → ℕ → ℕ → Datum → State → Type 0
 Offering s i c x t = StepsTo s i (action.Offer c) (Out c x ∷ []) t
 
 -- outputs begin, one after another
@@ -89,13 +125,13 @@ past_one {s = s} st (tells {t = v} w st2 r) ne l =
 
 -- ---- an output that is finished earlier
 
-record Early (s : State) (f : ℕ) (ks : List Comm) (u : State) : Type 0 where
-  site : ℕ
-  next : State
-  ends : StepsTo s site action.Finish (Fin f ∷ []) next
-  rest : Path next ks u
+pub record Early (s : State) (f : ℕ) (ks : List Comm) (u : State) : Type 0 where
+  pub site : ℕ
+  pub next : State
+  pub ends : StepsTo s site action.Finish (Fin f ∷ []) next
+  pub rest : Path next ks u
 
-early : {s u : State} {f : ℕ} {ks : List Comm} → Path s (Fin f ∷ ks) u → UsesLawfully s.rest → Early s f ks u
+pub early : {s u : State} {f : ℕ} {ks : List Comm} → Path s (Fin f ∷ ks) u → UsesLawfully s.rest → Early s f ks u
 early (tells {t = t} {i = i} tells_end st r) l = record { site = i; next = t; ends = st; rest = r }
 early {s = s} (quiet st r) l =
     let n = early r (step_uses st l) in

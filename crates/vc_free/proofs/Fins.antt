@@ -82,14 +82,14 @@ below_one (suc n) c m k ks l = elim (cases_eq m n) [
       omega arith)
 ]
 
-none_tail : (j m : ℕ) (k : Comm) (ks : List (ℕ × Comm)) → by j ((m, k) ∷ ks) ≡ [] → by j ks ≡ []
+pub none_tail : (j m : ℕ) (k : Comm) (ks : List (ℕ × Comm)) → by j ((m, k) ∷ ks) ≡ [] → by j ks ≡ []
 none_tail j m k ks = by_test (m == j)
   where
     by_test : (b : Bool) → (if b then k ∷ by j ks else by j ks) ≡ [] → by j ks ≡ []
     by_test true e = absurd (cc)
     by_test false e = e
 
-none_here : (m : ℕ) (k : Comm) (ks : List (ℕ × Comm)) → by m ((m, k) ∷ ks) ≡ [] → ⊥
+pub none_here : (m : ℕ) (k : Comm) (ks : List (ℕ × Comm)) → by m ((m, k) ∷ ks) ≡ [] → ⊥
 none_here m k ks h = let z : k ∷ by m ks ≡ [] = sym (ap (λ b. if b then k ∷ by m ks else by m ks) (eq-eqb m m refl)) ∙ h in cc
 
 pub all_below : (n c : ℕ) (ks : List (ℕ × Comm)) → ((m : ℕ) → n ≤ m → by m ks ≡ []) → fins c (without ks) ≡ below n c ks

@@ -25,4 +25,6 @@ pub mod Fins
 pub mod RestKnown
 pub mod Rest
 pub mod Quiet
+pub mod PlanChannels
+pub mod Schedules
 pub mod NeverStuck

@@ -4,11 +4,11 @@ use Rattle.vc_accepted.specs.Begin.{begin_of}
 use Rattle.vc_accepted.specs.NetworkOf.{network_of}
 use Rattle.vc_accepted.specs.OneList.{by}
 use Rattle.vc_free.proofs.Quiet.{quiet_networks}
-use Rattle.vc_free.specs.NeverStuck.{NeverStuckAnywhere}
+use Rattle.vc_free.proofs.Schedules.{never_by_lists}
+use Rattle.vc_free.specs.NeverStuck.{NeverStuckAnywhere, FreePlacementsNeverStop}
 use Rattle.vc_free.specs.Placements.{SameProgram}
-use Rattle.vc_free.specs.Rest.{NothingGoesOn}
+use Rattle.vc_free.specs.Rest.{NothingGoesOn, StepsAtOnce}
 use Rattle.vc_network.specs.Views.{view}
-use Rattle.vc_occam.specs.Completeness.{Steps}
 use Rattle.vc_occam.specs.Opening.{opening}
 use Rattle.vc_occam.specs.Remains.{Rest, Done, Stopped, Fresh, Finishing, Getting, Then, Turns, Beside}
 use Rattle.vc_placement.specs.Linearization.{all_comms, completed}
@@ -43,11 +43,17 @@ never_stuck_anywhere p q waiting es s never same acc ranks happen rests n less =
       | inr goes_on ↦ absurd (never hs (record {
         stands = still.stands;
         shown = λ c. completed (view (network_of q) s c);
-        made = λ m l. subst (λ z. Steps z (by m (all_comms hs)) (still.stands m)) (sym (begins_alike p q m same.program l)) (still.made m (omega arith));
-        by_no_other = λ m past. lin.by_no_other m (omega arith);
-        faithful = lin.faithful;
-        on_channel = λ c l. lin.on_channel c (omega arith);
+        comes = record {
+          made = λ m l. subst (λ z. StepsAtOnce z (by m (all_comms hs)) (still.stands m)) (sym (begins_alike p q m same.program l)) (still.made m (omega arith));
+          by_no_other = λ m past. lin.by_no_other m (omega arith);
+          faithful = lin.faithful;
+          on_channel = λ c l. lin.on_channel c (omega arith);
+        };
         rest = subst (λ k. NothingGoesOn k still.stands (λ c. (view (network_of q) s c).stopped)) (sym nodes) still.rest;
         waits = (n, omega arith, goes_on);
       }))
     ]
+
+pub free_placements_never_stop : FreePlacementsNeverStop
+free_placements_never_stop p q acc never same accepted ranks waiting es s happen rests =
+    never_stuck_anywhere p q waiting es s (never_by_lists p acc never) same accepted ranks happen rests

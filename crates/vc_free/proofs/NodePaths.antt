@@ -122,20 +122,20 @@ at_same c = ap (λ b. if b then 1 else 0) (eq-eqb c c refl)
 pub at_other : (d c : ℕ) → (d ≡ c → ⊥) → at d c ≡ 0
 at_other d c ne = ap (λ b. if b then 1 else 0) (ne_eqb d c ne)
 
-abbrev gained_out : ℕ → ProcessStep → ℕ
+abbrev pub gained_out : ℕ → ProcessStep → ℕ
 gained_out c (Offers i d m) = at d c
 gained_out c d = 0
 
-abbrev lost_out : ℕ → ProcessStep → ℕ
+abbrev pub lost_out : ℕ → ProcessStep → ℕ
 lost_out c (Finishes d) = at d c
 lost_out c d = 0
 
-abbrev gained_in : ℕ → ProcessStep → ℕ
+abbrev pub gained_in : ℕ → ProcessStep → ℕ
 gained_in c (Wants i d None) = at d c
 gained_in c (Chooses i k d None) = at d c
 gained_in c d = 0
 
-abbrev lost_in : ℕ → ProcessStep → ℕ
+abbrev pub lost_in : ℕ → ProcessStep → ℕ
 lost_in c (Receives d m) = at d c
 lost_in c d = 0
 
@@ -156,7 +156,7 @@ fin_chan c d h = cc
 in_chan : (c d : ℕ) (x y : Datum) → In c x ∷ [] ≡ In d y ∷ [] → d ≡ c
 in_chan c d x y h = cc
 
-did_outs : (c : ℕ) (s t : occam.State) (d : ProcessStep) (ks : List Comm) → occam.Does s d ks t → total (is_out c) (waiting t.rest) + lost_out c d ≡ total (is_out c) (waiting s.rest) + gained_out c d
+pub did_outs : (c : ℕ) (s t : occam.State) (d : ProcessStep) (ks : List Comm) → occam.Does s d ks t → total (is_out c) (waiting t.rest) + lost_out c d ≡ total (is_out c) (waiting s.rest) + gained_out c d
 did_outs c s t (Offers i e m) ks h = let q = total_inserted (is_out c) (step_waits h.3) in omega arith
 did_outs c s t (Wants i e None) ks h = let q = total_inserted (is_out c) (step_waits h.1) in omega arith
 did_outs c s t (Wants i e (Some m)) ks h = let q = ap (total (is_out c)) (step_waits h.2) in omega arith
@@ -188,7 +188,7 @@ did_outs c s t (Receives e m) ks h =
     let q = total_inserted (is_out c) n.3 in
     omega arith
 
-did_ins : (c : ℕ) (s t : occam.State) (d : ProcessStep) (ks : List Comm) → occam.Does s d ks t → total (is_in c) (waiting t.rest) + lost_in c d ≡ total (is_in c) (waiting s.rest) + gained_in c d
+pub did_ins : (c : ℕ) (s t : occam.State) (d : ProcessStep) (ks : List Comm) → occam.Does s d ks t → total (is_in c) (waiting t.rest) + lost_in c d ≡ total (is_in c) (waiting s.rest) + gained_in c d
 did_ins c s t (Offers i e m) ks h = let q = total_inserted (is_in c) (step_waits h.3) in omega arith
 did_ins c s t (Wants i e None) ks h = let q = total_inserted (is_in c) (step_waits h.1) in omega arith
 did_ins c s t (Wants i e (Some m)) ks h = let q = ap (total (is_in c)) (step_waits h.2) in omega arith
@@ -573,7 +573,7 @@ unfolding tag
 tag_there m n [] ne = refl
 tag_there m n (k ∷ xs) ne = ap (λ b. if b then k ∷ by n (tag m xs) else by n (tag m xs)) (ne_eqb m n ne) ∙ tag_there m n xs ne
 
-same_node : (a b : Node Process) → IsNode a ≡ IsNode b → a ≡ b
+pub same_node : (a b : Node Process) → IsNode a ≡ IsNode b → a ≡ b
 same_node a b e = cc
 
 module _ (p : Plan) (waiting : Waiting) (ok : network.IsAccepted (network_of p)) (kind_on : ℕ → ValueKind) (first_good : (n : ℕ) → n < length p.nodes → IsGood kind_on (kinds_of (node_plan p n).vars) (begin_of p n)) where

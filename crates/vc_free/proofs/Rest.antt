@@ -54,7 +54,7 @@ use Rattle.vc_occam.specs.declared.answer.Answer.{Answer}
 use Rattle.vc_occam.specs.declared.answer.Answer.TheVariants.{Nothing, Waits as Waiting_answer, Got}
 use Rattle.vc_occam.specs.declared.moves.Move.{Move}
 use Rattle.vc_occam.specs.declared.moves.Move.TheVariants as move
-use Rattle.vc_free.proofs.Begun.{Path, still, quiet, tells, as_steps, Outs, no_out, one_out, later_path}
+use Rattle.vc_free.proofs.Begun.{Path, still, quiet, tells, as_steps, at_once, Outs, no_out, one_out, later_path}
 use Rattle.vc_free.proofs.PutOff.{total, total_there, is_out, is_in, Waits, no_wait, input_waits, guard_waits, waits_map, waits_keep, outs_moves, waits_moves, Left, is_left, is_begun, is_chosen}
 use Rattle.vc_occam.proofs.CutTraces.{steps_make_traces}
 use Rattle.vc_occam.proofs.Counts.{fins}
@@ -79,8 +79,7 @@ use Rattle.vc_free.proofs.LinearizesWith.{linearizes_with}
 use Rattle.vc_free.specs.Delivery.{HasDelivered, Delivers}
 use Rattle.vc_free.proofs.RestKnown.{OutOf, out_way, out_inside, InTo, in_way, in_inside, Known}
 use Rattle.vc_accepted.specs.Alone.{GoesAlone}
-use Rattle.vc_free.specs.Rest.{TakesFrom, Begun, nothing_begun, output_begun, input_begun, StandsStill}
-use Rattle.vc_occam.specs.Completeness.{Steps}
+use Rattle.vc_free.specs.Rest.{StepsAtOnce, TakesFrom, Begun, nothing_begun, output_begun, input_begun, StandsStill}
 use Rattle.vc_placement.proofs.Completions.{Rewrites}
 use Rattle.vc_placement.specs.Linearization.{Atomic, all_comms, completed, IsLinearization, StaysEnded}
 use Rattle.vc_placement.specs.Placement.{CanPerform, IsLinearizationOf}
@@ -97,7 +96,7 @@ busy_fits ch Returning x n h ne = let g = h.2 in by_left g.later g.left
     by_left [] (a, b, d) = let e = ap length b in omega arith
     by_left (y ∷ ys) (m, a, b, d, e) = let f = ap length d in let g = length-append x.taken (m ∷ []) in omega arith
 
-longer : (xs : List (List ℕ)) (x : List ℕ) → xs ≡ xs ++ x ∷ [] → ⊥
+pub longer : (xs : List (List ℕ)) (x : List ℕ) → xs ≡ xs ++ x ∷ [] → ⊥
 longer xs x e = let a = ap length e in let b = length-append xs (x ∷ []) in omega arith
 
 stored_fits : (ch : Channel) (f : Phase) (x : ChanState) (n : ℕ) → PhaseFits ch f x n → x.taken ≡ x.offered → x.finished ≡ length x.taken → x.stored ≡ []
@@ -119,14 +118,14 @@ here_is n e x h = by_test (e.node == n) refl h
     by_test true t h = eqb-true e.node n t
     by_test false t h = absurd (cc)
 
-output_here : (plan : network.Plan) (n d : ℕ) (x : End) → (ends plan n).output d ≡ Some x → (v : ℕ) × (ab : Bool) × (home plan d ≡ Way v ab) × (source_node plan (Way v ab) ≡ n)
+pub output_here : (plan : network.Plan) (n d : ℕ) (x : End) → (ends plan n).output d ≡ Some x → (v : ℕ) × (ab : Bool) × (home plan d ≡ Way v ab) × (source_node plan (Way v ab) ≡ n)
 output_here plan n d x h = by_home (home plan d) refl h
   where
     by_home : (o : Home) → home plan d ≡ o → output_end plan n o ≡ Some x → (v : ℕ) × (ab : Bool) × (home plan d ≡ Way v ab) × (source_node plan (Way v ab) ≡ n)
     by_home (Way v ab) e h = (v, ab, e, here_is n (end_of (virtual_link plan v) ab) x h)
     by_home (Inside m) e h = absurd (cc)
 
-input_here : (plan : network.Plan) (n d : ℕ) (x : End) → (ends plan n).input d ≡ Some x → (v : ℕ) × (ab : Bool) × (home plan d ≡ Way v ab) × (sink_node plan (Way v ab) ≡ n)
+pub input_here : (plan : network.Plan) (n d : ℕ) (x : End) → (ends plan n).input d ≡ Some x → (v : ℕ) × (ab : Bool) × (home plan d ≡ Way v ab) × (sink_node plan (Way v ab) ≡ n)
 input_here plan n d x h = by_home (home plan d) refl h
   where
     by_home : (o : Home) → home plan d ≡ o → input_end plan n o ≡ Some x → (v : ℕ) × (ab : Bool) × (home plan d ≡ Way v ab) × (sink_node plan (Way v ab) ≡ n)
@@ -769,8 +768,8 @@ module _ (p : Plan) (waiting_rule : Waiting) (kind_on : ℕ → ValueKind) (know
     (e, q, λ done. k (now n l).store (let h = waits_done (ready n l).waits done in ap (λ (z : occam.State). so_far z.rest z.store) h ∙ ap (λ z. so_far z (now n l).store) done)),
   )
 
-  made_at : (n : ℕ) (t : There n) → n < count → Steps (begin_of p n).state (by n (all_comms atomics)) (stands_at n t)
-  made_at n (inl l) r = as_steps (went n l).1
+  made_at : (n : ℕ) (t : There n) → n < count → StepsAtOnce (begin_of p n).state (by n (all_comms atomics)) (stands_at n t)
+  made_at n (inl l) r = at_once (went n l).1
   made_at n (inr past) r = absurd (omega arith)
 
   begun_at : (n : ℕ) (t : There n) → n < count → (a : Node Process) × (s.state n ≡ IsNode a) × Begun (stands_at n t) a.process.state

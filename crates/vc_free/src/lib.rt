@@ -9,7 +9,11 @@
 
 ghost use Rattle.vc_free.specs.Converse.{NetworkRunsIt};
 ghost use Rattle.vc_free.specs.Delivery.{FreeNetworksDeliver};
-ghost use Rattle.vc_free.specs.NeverStuck.{NeverStuckAnywhere};
+ghost use Rattle.vc_free.specs.NeverStuck.{
+  FreePlacementsNeverStop,
+  ListsAreSchedules,
+  NeverStuckAnywhere,
+};
 ghost use Rattle.vc_free.specs.Placements.{FreePlacementsDoTheSame};
 ghost use Rattle.vc_free.specs.Rest.{QuietNetworksAreQuiet};
 ghost use Rattle.vc_free.specs.Together.{FreeNetworksDoAll};
@@ -57,4 +61,17 @@ pub fn a_quiet_free_network_is_quiet()
 /// ranks, all processes have ended there.
 pub fn never_stuck_anywhere()
     ensures { NeverStuckAnywhere }
+{}
+
+/// What the processes of an accepted plan come to by a list of communications, each message at one moment, a schedule of its program comes
+/// to by its moves (`vc_program`): to the same states, with the same channels stopped and the same messages passed.
+pub fn lists_are_schedules()
+    ensures { ListsAreSchedules }
+{}
+
+/// A program of which no schedule gets stuck stops on no free placement. If no schedule of the program of an accepted plan gets stuck, as
+/// an exploration of all of them decides, then of the network of an accepted placement whose ports have ranks, under either waiting rule and
+/// wherever a run has come: when no event can happen, all processes have ended.
+pub fn free_placements_never_stop()
+    ensures { FreePlacementsNeverStop }
 {}

@@ -1,0 +1,9 @@
+pub mod Sequences
+pub mod Channels
+pub mod Counting
+pub mod Known
+pub mod Ends
+pub mod Keeping
+pub mod Steps
+pub mod Opening
+pub mod Events
