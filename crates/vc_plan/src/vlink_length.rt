@@ -40,8 +40,8 @@ fn vlink_length(
     })
 }
 
-/// Tells of each virtual link of an accepted plan, in order, how many switches its packets pass at least and at most, each way. It
-/// fails for want of memory alone.
+/// Reports for each virtual link of an accepted plan, in order, how many switches its packets pass at least and at most, each way. It
+/// fails only when out of memory.
 pub fn vlink_lengths(alloc: Global, accepted: &Accepted) -> Result<Vec<VlinkLength>, Memory>
     ensures { IfOk result (λ lengths.
         AllZip (IsVlinkLength accepted.now) accepted.now.vlinks lengths.items) }
