@@ -2,7 +2,7 @@
 //! example's files.
 //!
 //! `index.txt` names the examples, one a line: the status that is wanted, the file of the output that is wanted (`-` where a library
-//! words it), the file of the network, and the words of the command line behind the program's name.
+//! words it), the file of the network, and the words of the command line after the program's name.
 #![tactic(auto)]
 
 use std::alloc::{Alloc, AllocError, Global};
@@ -17,7 +17,7 @@ use vc_words::{Meter, NamedFiles, run_words};
 /// The file that names the examples.
 const INDEX: &str = "index.txt";
 
-/// What stands in place of an output that is not compared.
+/// What is written in place of an output that is not compared.
 const NOT_COMPARED: &str = "-";
 
 /// One example: a network, the words, and what comes of them.

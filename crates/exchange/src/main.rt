@@ -1,5 +1,5 @@
 //! One exchange, event by event: two nodes on one wire, of which the first outputs `hello` and the second never inputs. The program
-//! makes the events by which the message's packet comes over, and prints after each where the packet stands, or that the event could
+//! makes the events by which the message's packet comes over, and prints after each where the packet is, or that the event could
 //! not be made. It shows the libraries at work without the simulator: read, check, begin, step.
 #![tactic(auto)]
 

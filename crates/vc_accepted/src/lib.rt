@@ -80,7 +80,7 @@ pub fn ranks_are_given()
 /// After any events of an accepted plan's network there is one list of communications, each with the node that makes it. Each
 /// node's part is a trace of its process, from the process as the plan has it on: one that has ended where nothing remains of it,
 /// and else one that is cut off. Each channel's part is a run of the channel to what it shows. The list follows the events: after each,
-/// what was told so far is such a list, and what the next one tells stands behind it. Under both waiting rules.
+/// what was reported so far is such a list, and what the next one reports comes after it. Under both waiting rules.
 pub fn one_list_tells_all()
     ensures { AllIsTold }
 {}

@@ -104,7 +104,7 @@ impl Actor {
         }
     }
 
-    /// Whether an act is one that the actor can make now, whatever stands on its ways.
+    /// Whether an act is one that the actor can make now, whatever is on its ways.
     pub fn can(&self, act: &Act) -> bool
         ensures may { IsTrue result ↔ MayAct self.now act.now }
         ensures can { (plan : Plan) (k : ℕ) →
@@ -260,7 +260,7 @@ impl Actor {
 
     /// Makes the actor's next step: a token passes, by the least link; a switch binds a packet, the least input's to the least
     /// output; a token is put, by the least link with room; a flow control token is put, by the least link with room; then a move
-    /// of the process, beginning behind the site that acted last. `room` has a bit for each outgoing link that has room, and a token is
+    /// of the process, beginning after the site that acted last. `room` has a bit for each outgoing link that has room, and a token is
     /// put on such a link alone. An idle turn changes nothing.
     #[inline(always)]
     pub fn turn(&mut self, room: u32) -> Result<Turn, Memory>

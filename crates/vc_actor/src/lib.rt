@@ -1,6 +1,6 @@
 //! One actor of a network, a node or a switch: what it can do, and each step that it makes by itself.
 //!
-//! An [`Actor`] is a node with its process, or a switch. What it is told of the ways at its links is a token that comes, and by which
+//! An [`Actor`] is a node with its process, or a switch. What it is given of the ways at its links is a token that comes, and by which
 //! links there is room. Each step that it makes is exactly one step of its actor in the network of the plan (`specs/Acts`, MakesOwn,
 //! MakesTake, MakesPut, MakesGrant), and its next step is one that it can make, or it has none (`specs/Turns`, MakesTurn). [`actors`]
 //! builds those of an accepted plan.

@@ -578,7 +578,7 @@ fn go_on(process: &mut Running, taken: Taken) -> bool
     }
 }
 
-/// What an input's process is told.
+/// What an input's process is given.
 fn answer_of(want: Want) -> Answer
     ensures came { came result ≡ answered want }
     ensures some { result ≢ Answer.Nothing }

@@ -74,7 +74,7 @@ impl NodeActor {
         &self.node
     }
 
-    /// Whether an act is one that the node can make now, whatever stands on its ways.
+    /// Whether an act is one that the node can make now, whatever is on its ways.
     pub(crate) fn can(&self, act: &Act) -> bool
         ensures may { IsTrue result ↔ NodeMay self.now act.now }
         ensures can { (plan : Plan) (k : ℕ) →
@@ -211,7 +211,7 @@ impl NodeActor {
         self.node.vcp.grant(link);
     }
 
-    /// What the node does next where its links have this room: by the least link, or a move of the process, beginning behind the
+    /// What the node does next where its links have this room: by the least link, or a move of the process, beginning after the
     /// site that acted last.
     #[inline(always)]
     pub(crate) fn next(&mut self, room: u32) -> Result<Option<Act>, Memory>

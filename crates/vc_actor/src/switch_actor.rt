@@ -37,7 +37,7 @@ impl SwitchActor {
         self.switch.switch()
     }
 
-    /// Whether an act is one that the switch can make now, whatever stands on its ways.
+    /// Whether an act is one that the switch can make now, whatever is on its ways.
     pub(crate) fn can(&self, act: &Act) -> bool
         ensures may { IsTrue result ↔ SwitchMay self.now.switch act.now }
         ensures can { IsTrue result ↔ SwitchCan self.now.switch act.now }

@@ -7,7 +7,7 @@ use std::alloc::Global;
 use std::marker::Model;
 use vc_packets::Memory;
 
-/// Messages in the order in which they came, which contracts see as their list. Their bytes stand in one buffer, one message behind
+/// Messages in the order in which they came, which contracts see as their list. Their bytes are in one buffer, one message after
 /// another; messages as long as the first one take nothing besides, as long as no other came.
 #[derive(Drop)]
 pub struct MessageLog {

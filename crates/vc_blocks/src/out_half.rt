@@ -103,7 +103,7 @@ impl OutHalf {
         self.count - self.piece == 1
     }
 
-    /// The packet of the piece behind the one under way.
+    /// The packet of the piece after the one under way.
     pub fn next_packet(&self, alloc: Global) -> Result<Packet, Memory>
         requires { later_than self.now.unacked ≢ [] }
         ensures { IfOk result

@@ -56,7 +56,7 @@ impl Drop for Network {
 }
 
 impl Network {
-    /// The network of an accepted plan, about to begin: each process whole, and no token anywhere. It fails for want of memory alone.
+    /// The network of an accepted plan, about to begin: each process whole, and no token anywhere. It fails only when out of memory.
     pub fn new(alloc: Global, accepted: &Accepted) -> Result<Network, Memory>
         ensures opening { IfOk result (λ network. IsOpening accepted.now (state_of network)) }
     {

@@ -1,8 +1,8 @@
 //! Whose packets are: each is its channel's to whose end its headers lead.
 //!
-//! A packet is followed through the tables of the switches from where it stands, on one of the paths that its headers let it take:
-//! by the first link of each group, behind the least header of each range. On an accepted plan all paths of a channel's packet come
-//! to the channel's end, so this one tells whose it is.
+//! A packet is followed through the tables of the switches from where it is, on one of the paths that its headers let it take:
+//! by the first link of each group, after the least header of each range. On an accepted plan all paths of a channel's packet come
+//! to the channel's end, so this one shows whose it is.
 ghost use Rattle.std.specs.Prelude.{◌≡◌, ◌<◌, ◌≤◌, ◌+◌, ◌*◌, ◌++◌, ◌↔◌, [], ℕ, List, length, drop, slice_get, Some, None, IsTrue, IfSome, MatchOption};
 ghost use Rattle.std.specs.List.{Contains};
 ghost use Rattle.std.specs.Option.{option_copied};
@@ -36,7 +36,7 @@ const LONGEST: usize = 44;
 /// After so many hops each packet of an accepted plan is at its end.
 const HOPS: u8 = 32;
 
-/// A packet's bytes on its path, behind at most one random header a hop.
+/// A packet's bytes on its path, after at most one random header a hop.
 type Headed = ArrayVec<u8, 108>;
 
 impl Network {

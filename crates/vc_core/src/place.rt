@@ -1,6 +1,6 @@
-//! Where packets stand.
+//! Where packets are.
 
-/// Where a packet stands: there its end mark is.
+/// Where a packet is: there its end mark is.
 #[derive(Clone, Copy, Debug, PartialEq, Eq, Drop)]
 pub enum Place {
     /// In a send queue of the node of this number.

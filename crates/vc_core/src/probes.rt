@@ -1,4 +1,4 @@
-//! What can be seen in a network beside its traffic: who is blocked, what stands on its wires, and what was dropped.
+//! What can be seen in a network beside its traffic: who is blocked, what is on its wires, and what was dropped.
 ghost use Rattle.std.specs.Prelude.{◌≡◌, ◌+◌, ◌*◌, ◌<◌, ◌++◌, [], ℕ, List, length, Some, None, IfOk};
 ghost use Rattle.vc_core.specs.Replay.{Replays};
 ghost use Rattle.vc_plan.specs.declared.plan.Plan.{Plan};
@@ -27,7 +27,7 @@ use vc_tokens::Token;
 
 impl Network {
     /// What the parts of a node's process are at that do not go on by themselves, in order of site; nothing where the network has no
-    /// such node. It fails for want of memory alone.
+    /// such node. It fails only when out of memory.
     pub fn blocked(&self, alloc: Global, node: usize) -> Result<Items<Blocked>, Memory>
         ensures { IfOk result (λ found. found ≡ blocked_in (shown (state_of self.now)) node) }
     {
@@ -37,7 +37,7 @@ impl Network {
         }
     }
 
-    /// How many tokens stand on a wire in one direction: from its port one, or from its port two. None where there is no such wire.
+    /// How many tokens are on a wire in one direction: from its port one, or from its port two. None where there is no such wire.
     pub fn tokens_on(&self, wire: u16, from_one: bool) -> usize
         ensures { result ≡ length ((shown (state_of self.now)).way (way_of wire from_one)) }
     {
@@ -58,8 +58,8 @@ impl Network {
         }
     }
 
-    /// The token at the end of the way that goes out by an actor's link, which was put last of those that stand there. None where none
-    /// stands there, or no way goes out by the link.
+    /// The token at the end of the way that goes out by an actor's link, which was put last of those that are there. None where none
+    /// is there, or no way goes out by the link.
     pub fn last_put(&self, actor: u8, link: u8) -> Option<Token>
         ensures token { (p : Plan) (way : ℕ) →
             IsNetworkOf p (state_of self.now) →
@@ -76,7 +76,7 @@ impl Network {
         }
     }
 
-    /// How many tokens stand in the receive buffer of an actor's link: at most 16, and none where there is no such link.
+    /// How many tokens are in the receive buffer of an actor's link: at most 16, and none where there is no such link.
     pub fn buffered(&self, actor: usize, link: u8) -> usize
         ensures { result ≡ buffered_in (shown (state_of self.now)) actor link }
     {

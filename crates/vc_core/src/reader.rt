@@ -16,7 +16,7 @@ use crate::prefix::Prefix;
 use vc_packets::Mark;
 use vc_tokens::Token;
 
-/// Reads the packets that tokens on a way spell, and tells whether one of a channel's was among them.
+/// Reads the packets that tokens on a way spell, and reports whether one of a channel's was among them.
 #[derive(Drop)]
 pub(crate) struct Reader {
     way: usize,

@@ -1,4 +1,4 @@
-//! Where a channel's packet stands: held by its node, or at a way: in the queue at its near end, on it, or in the switch at its far end.
+//! Where a channel's packet is: held by its node, or at a way: in the queue at its near end, on it, or in the switch at its far end.
 ghost use Rattle.std.specs.Prelude.{◌≡◌, ◌<◌, ◌++◌, ◌↔◌, ℕ, length, Some, None, IsTrue, ◌≢◌, ◌+◌, ◌*◌, [], false, List, IsSome};
 ghost use Rattle.std.specs.List.{Contains};
 ghost use Rattle.vc_accepted.specs.NetworkOf.{network_of, port_of as named_port};
@@ -35,9 +35,9 @@ use vc_switch::Switch;
 use vc_tokens::Token;
 
 impl Network {
-    /// Where a packet of a channel stands: there its end mark is. After any events from the opening state on a channel has a packet
+    /// Where a packet of a channel is: there its end mark is. After any events from the opening state on a channel has a packet
     /// exactly where an output on it is not finished, and has only that one; a channel inside a node never has one. It takes no
-    /// memory. Whose a packet is, the tables tell by which it goes.
+    /// memory. The tables by which a packet goes show whose it is.
     pub fn place(&self, chan: u16) -> Option<Place>
         ensures finds { (p : Plan) (events : List Happening) →
             Reached p events (state_of self.now) →
@@ -104,7 +104,7 @@ impl Network {
         }
     }
 
-    /// Where at a way a packet of the channel with these ends stands.
+    /// Where at a way a packet of the channel with these ends is.
     pub(crate) fn place_on(&self, way: usize, ends: &Ends) -> Option<Place>
         ensures { (p : Plan) (c : ℕ) →
             IsNetworkOf p (state_of self.now) →

@@ -41,7 +41,7 @@ impl Way {
         }
     }
 
-    /// The tokens on the way, in two parts: those of the first stand before those of the second.
+    /// The tokens on the way, in two parts: those of the first come before those of the second.
     pub(crate) fn tokens(&self) -> (&[Token], &[Token])
         ensures { tokens (result.0.now ++ result.1.now) ≡ self.now }
     {
@@ -62,7 +62,7 @@ impl Way {
         self.queue.back().copied()
     }
 
-    /// Takes the front token off. One that stands alone is taken from the end, so that the ring's head stays where it is. While tokens come
+    /// Takes the front token off. One that is alone is taken from the end, so that the ring's head stays where it is. While tokens come
     /// one by one the ring does not wrap around, and its two branches on that go the same way each time (bench/lab).
     #[inline(always)]
     pub(crate) fn take_front(&mut self) -> Token

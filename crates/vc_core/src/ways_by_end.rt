@@ -14,7 +14,7 @@ use vc_actor::Actor;
 use vc_packets::Memory;
 use vc_tokens::Token;
 
-/// The ways of a network, with the tokens on them. They stand by the links to which they lead, so that a token is taken and put without
+/// The ways of a network, with the tokens on them. They are kept by the links to which they lead, so that a token is taken and put without
 /// a look at its way's number.
 #[derive(Drop)]
 pub(crate) struct WaysByEnd {
@@ -72,7 +72,7 @@ impl WaysByEnd {
         self.ends[way]
     }
 
-    /// The front token of the way that leads to a port is taken off; answers it, and whether none stands behind it.
+    /// Takes the front token off the way that leads to a port. The answer is the token, and whether none is after it.
     #[inline(always)]
     pub(crate) fn take_front(&mut self, end: End) -> (Token, bool)
         requires { HasToken self.old end }

@@ -24,7 +24,7 @@ fn shorter(one: Option<Vec<Port>>, other: Option<Vec<Port>>) -> Option<Vec<Port>
 
 /// Finds the least cycle of dependencies: its ports, each of which depends on the next, and the last on the first. No cycle has fewer
 /// ports, and of those with as many it is the first by the ports in order. It answers none where there is no cycle, and then the ports
-/// have ranks. It fails for want of memory alone.
+/// have ranks. It fails only when out of memory.
 pub fn find_cycle(alloc: Global, accepted: &Accepted) -> Result<Option<Vec<Port>>, Memory>
     ensures free { IfOk result (λ found. IfNone found (HasRanks accepted.now)) }
     ensures cycle { IfOk result (λ found.

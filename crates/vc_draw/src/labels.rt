@@ -16,7 +16,7 @@ use vc_packets::{Bytes, Memory};
 use vc_plan::Plan;
 use vc_waits::places;
 
-/// The lines that a drawing adds to the labels of nodes, wires and channels, for each in the plan's order. There are none behind the end
+/// The lines that a drawing adds to the labels of nodes, wires and channels, for each in the plan's order. There are none after the end
 /// of a list.
 #[derive(Drop)]
 pub(crate) struct Labels {

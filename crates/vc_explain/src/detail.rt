@@ -197,7 +197,7 @@ fn push_way(
     }
 }
 
-/// Adds what is told of the refusal beside its sentence.
+/// Adds what is said of the refusal beside its sentence.
 #[tactic(auto, unfolding(crate::specs::Details::detail))]
 pub(crate) fn push_detail(out: &mut Vec<u8>, plan: &Plan, why: &CheckRefused) -> Result<(), Memory>
     ensures { OnOk result (out.new.items ≡ out.old.items ++ detail plan.now why.now) }

@@ -1,4 +1,4 @@
-//! What is told of a network file.
+//! What is said of a network file.
 ghost use Rattle.std.specs.Prelude.{◌≡◌, ◌++◌, ◌-◌, ◌≤◌, [], length, take, option_map, IfOk, OnOk, Ok, Err, Some};
 ghost use Rattle.std.specs.List.{flat_map};
 ghost use Rattle.serde_json.specs.Data.{null};
@@ -35,7 +35,7 @@ use vc_text::{
     write_text,
 };
 
-/// What is told of a network file.
+/// What is said of a network file.
 #[derive(Drop)]
 pub struct Explanation {
     /// The text.
@@ -78,7 +78,7 @@ fn push_deadlock(
     Ok(())
 }
 
-/// What is told of an accepted network whose packets pass so many switches, and in which these ports of a cycle were found, or none.
+/// What is said of an accepted network whose packets pass so many switches, and in which these ports of a cycle were found, or none.
 #[tactic(auto, using(std::proofs::Common::append_assoc), unfolding(crate::specs::Explanation::accepted_told))]
 fn tell_found(
     alloc: Global,
@@ -97,7 +97,7 @@ fn tell_found(
     Ok(out)
 }
 
-/// What is told of an accepted network.
+/// What is said of an accepted network.
 fn tell_accepted(alloc: Global, accepted: &Accepted) -> Result<Vec<u8>, Memory>
     ensures { IfOk result (λ told. IsToldOfAccepted accepted.now told.items) }
 {
@@ -234,7 +234,7 @@ fn value_of(alloc: Global, text: &[u8], refused: &ReadRefused) -> Result<Value, 
     }
 }
 
-/// What is told of a text that is refused.
+/// What is said of a text that is refused.
 fn tell_text(
     alloc: Global,
     text: &[u8],
@@ -254,7 +254,7 @@ fn tell_text(
     Ok(out)
 }
 
-/// What is told of a plan that is refused, whose file has these offenders.
+/// What is said of a plan that is refused, whose file has these offenders.
 fn tell_plan(
     alloc: Global,
     text: &[u8],
@@ -284,7 +284,7 @@ fn tell_plan(
     }
 }
 
-/// What is told of a network that can't be labelled.
+/// What is said of a network that can't be labelled.
 fn tell_cause(alloc: Global, fault: &RunFault, cause: &LabelCause) -> Result<Vec<u8>, Memory>
     requires { fault.now ≡ Network cause.now }
     ensures { IfOk result (λ told. told.items ≡ refusal_told [] 0 null [] fault.now) }
@@ -295,7 +295,7 @@ fn tell_cause(alloc: Global, fault: &RunFault, cause: &LabelCause) -> Result<Vec
     Ok(out)
 }
 
-/// What is told of a refusal that is not one of a plan.
+/// What is said of a refusal that is not one of a plan.
 fn tell_refusal(alloc: Global, text: &[u8], fault: &RunFault) -> Result<Vec<u8>, Memory>
     ensures { IfOk result (λ told. IsToldOfRefusal text.now fault.now told.items) }
 {
@@ -310,7 +310,7 @@ fn tell_refusal(alloc: Global, text: &[u8], fault: &RunFault) -> Result<Vec<u8>,
     }
 }
 
-/// What is told of a whole file of this plan.
+/// What is said of a whole file of this plan.
 fn explain_whole(alloc: Global, text: &[u8], plan: Plan) -> Result<Explanation, Memory>
     requires limit { length text.now ≤ most_bytes }
     requires read { Reads text.now (Ok plan) }
@@ -332,7 +332,7 @@ fn explain_whole(alloc: Global, text: &[u8], plan: Plan) -> Result<Explanation, 
     }
 }
 
-/// What is told of the short form of a file, if the plan of the file that was made of it is refused.
+/// What is said of the short form of a file, if the plan of the file that was made of it is refused.
 fn explain_short(alloc: Global, text: &[u8], refusal: Refusal) -> Result<Explanation, Memory>
     requires limit { length text.now ≤ most_bytes }
     requires read { ReadsFile text.now (Err (InPlan refusal)) }
@@ -351,7 +351,7 @@ fn explain_short(alloc: Global, text: &[u8], refusal: Refusal) -> Result<Explana
     })
 }
 
-/// Tells what is wrong in the text of a network file and where, or what its network has. The short form of a file is explained as the
+/// Writes what is wrong in the text of a network file and where, or what its network has. The short form of a file is explained as the
 /// network that it is labelled to. The call fails only when out of memory.
 pub fn explain(alloc: Global, text: &[u8]) -> Result<Explanation, Memory>
     requires { length text.now ≤ most_bytes }

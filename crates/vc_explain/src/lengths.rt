@@ -1,4 +1,4 @@
-//! How many switches the packets of each virtual link pass, as it is told.
+//! How many switches the packets of each virtual link pass, as it is reported.
 ghost use Rattle.std.specs.Prelude.{◌≡◌, ◌++◌, OnOk};
 ghost use Rattle.vc_explain.specs.Lengths.{ends_text, length_text, lengths_text, vlink_lines, way_line};
 

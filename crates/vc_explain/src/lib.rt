@@ -1,12 +1,12 @@
-//! What is wrong in a network file, in plain sentences, and where it stands.
+//! What is wrong in a network file, in plain sentences, and where it is.
 //!
-//! [`explain`] tells of a text the line that `check` answers, and behind it a sentence with what to change and the line and column of
-//! what is at fault; or, of a network that is accepted, what it has. The layer above knows exactly what is told (`specs/Explanation`):
+//! [`explain`] writes for a text the line that `check` prints, and after it a sentence with what to change and the line and column of
+//! what is at fault; or, of a network that is accepted, what it has. The layer above knows exactly what is written (`specs/Explanation`):
 //! the sentence of each refusal (`specs/Sentences`, `specs/Causes`), what a refusal names (`specs/Offenders`, `specs/ShortPlaces`), where
 //! in the text the value of a path is (`specs/Parts`, `specs/Place`), and how many switches packets pass (`specs/Lengths`). Of a text that
 //! is no JSON it knows only that the place is in the text.
 //!
-//! Of a use of a channel or a variable that is refused the places in the processes are told (`specs/Uses`, `specs/Offences`,
+//! Of a use of a channel or a variable that is refused the places in the processes are given (`specs/Uses`, `specs/Offences`,
 //! `specs/Misuses`). Of each use that is not lawful there are two: that is a law ([`offences_are_found`]).
 #![tactic(auto)]
 

@@ -29,7 +29,7 @@ pub(crate) struct Named {
 /// Two places in a process, by their paths.
 #[derive(Drop)]
 pub(crate) struct Places {
-    /// The place that is told first.
+    /// The place that is reported first.
     pub(crate) first: Items<Step>,
     /// The other one.
     pub(crate) second: Items<Step>,
@@ -260,7 +260,7 @@ fn variable_named(vars: &[Variable], name: &[u8]) -> Option<usize>
         .position(|var| is_name(var.name.as_slice(), name))
 }
 
-/// Where the process of a node stands.
+/// Where the process of a node is.
 pub(crate) fn process_path(node: usize) -> [Step; 3]
     ensures { result ≡ path_of_process node }
 {
@@ -291,7 +291,7 @@ fn offence_by(
 
 /// The two places in the process of a node where it uses the channel or the variable of this name as it may not: of the first PAR, by
 /// site, of which two parts do, or of the first replicated SEQ that changes its index. None where there is no such node, and where its
-/// process uses them lawfully. It fails for want of memory alone.
+/// process uses them lawfully. It fails only when out of memory.
 pub(crate) fn offence_of(
     alloc: Global,
     plan: &Plan,

@@ -292,7 +292,7 @@ fn push_row(
     Ok(())
 }
 
-/// What a refusal names, in the order in which it is told.
+/// What a refusal names, in the order in which it is written.
 pub(crate) fn offenders(
     alloc: Global,
     plan: &Plan,

@@ -1,4 +1,4 @@
-//! Where the parts of a JSON text stand.
+//! Where the parts of a JSON text are.
 ghost use Rattle.std.specs.Prelude.{◌≡◌, ◌+◌, ◌<◌, ◌≤◌, ◌∷◌, [], drop, length, slice_index, MatchOption, IfSome};
 ghost use Rattle.vc_explain.specs.declared.quoting.Quoting.TheVariants.{Outside};
 ghost use Rattle.vc_explain.specs.Parts.{is_blank as is_blank_byte, past_blanks as text_past_blanks, opens as opens_by, closes as closes_by, parts_after, past_colon as text_past_colon, hex_digit as hex_digit_of, is_escape as is_escape_at, escaped as escaped_at, spells as text_spells, is_named as text_is_named, item as item_of, member as member_of, part as part_of, value_at as text_at_path};
@@ -38,7 +38,7 @@ fn closes(byte: u8) -> bool
     byte == b']' || byte == b'}'
 }
 
-/// The text behind the next comma outside of strings and inner brackets, where there is one before the bracket around it closes.
+/// The text after the next comma outside of strings and inner brackets, where there is one before the bracket around it closes.
 fn next_part(text: &[u8]) -> Option<&[u8]>
     ensures parts { MatchOption result (parts_after Outside 0 text.now ≡ [])
         (λ part. parts_after Outside 0 text.now ≡ part.now ∷ parts_after Outside 0 part.now) }
@@ -67,7 +67,7 @@ fn next_part(text: &[u8]) -> Option<&[u8]>
     None
 }
 
-/// The text behind its first colon outside of strings.
+/// The text after its first colon outside of strings.
 fn past_colon(text: &[u8]) -> &[u8]
     ensures { result.now ≡ text_past_colon Outside text.now }
 {
@@ -123,7 +123,7 @@ fn is_escape(text: &[u8]) -> bool
     byte_at(text, 0) == b'\\' && byte_at(text, 1) == b'u'
 }
 
-/// The number that four hexadecimal digits behind `\u` write.
+/// The number that four hexadecimal digits after `\u` write.
 fn escaped(text: &[u8]) -> u32
     ensures { result ≡ escaped_at text.now }
 {

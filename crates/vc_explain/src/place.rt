@@ -1,4 +1,4 @@
-//! Places in a text, as they are told.
+//! Places in a text, as they are reported.
 ghost use Rattle.std.specs.Prelude.{◌≡◌, ◌++◌, take, OnOk};
 ghost use Rattle.vc_text.specs.FaultLine.{steps_text};
 ghost use Rattle.vc_explain.specs.Place.{byte_line, column_from, line_from, path_line, place_text};
@@ -8,7 +8,7 @@ use vc_packets::Memory;
 use vc_reader::Step;
 use vc_text::{push_number, push_step};
 
-/// The line and the column behind these bytes, both from 1.
+/// The line and the column after these bytes, both from 1.
 fn line_and_column(before: &[u8]) -> (usize, usize)
     ensures line { result.0 ≡ line_from 1 before.now }
     ensures column { result.1 ≡ column_from 1 before.now }
@@ -28,7 +28,7 @@ fn line_and_column(before: &[u8]) -> (usize, usize)
     (line, column)
 }
 
-/// The place behind these bytes.
+/// The place after these bytes.
 #[tactic(auto, using(std::proofs::Common::append_assoc), unfolding(crate::specs::Place::place_text))]
 fn push_place(out: &mut Vec<u8>, before: &[u8]) -> Result<(), Memory>
     ensures { OnOk result (out.new.items ≡ out.old.items ++ place_text before.now) }

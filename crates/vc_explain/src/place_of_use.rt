@@ -16,7 +16,7 @@ use vc_packets::Memory;
 use vc_process::{Branch, Expr, Guard, Process, ValueKind};
 use vc_reader::{Step, Word};
 
-/// The place of a step behind this path.
+/// The place of a step after this path.
 fn place_behind(
     alloc: Global,
     at: &[Step],
@@ -200,8 +200,8 @@ impl Search for UseSearch<'_> {
     }
 }
 
-/// The path of the first use, by site, that is wanted, of a process that stands at this path and whose node has variables of these
-/// kinds. None where there is no such use. It fails for want of memory alone.
+/// The path of the first use, by site, that is wanted, of a process that is at this path and whose node has variables of these
+/// kinds. None where there is no such use. It fails only when out of memory.
 pub(crate) fn place_of(
     alloc: Global,
     wanted: Wanted,

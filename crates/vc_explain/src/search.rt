@@ -27,7 +27,7 @@ pub(crate) trait Search {
             found ≡ finds self.now ((number process.now).tree site, at.now)) };
 }
 
-/// A path, and more steps behind it.
+/// A path, and more steps after it.
 pub(crate) fn longer(alloc: Global, at: &[Step], more: &[Step]) -> Result<Vec<Step>, Memory>
     ensures { IfOk result (λ made. made.items ≡ at.now ++ more.now) }
 {
@@ -37,7 +37,7 @@ pub(crate) fn longer(alloc: Global, at: &[Step], more: &[Step]) -> Result<Vec<St
     Ok(made)
 }
 
-/// What is found first, by site, in a process at this path or in those within it. It fails for want of memory alone.
+/// What is found first, by site, in a process at this path or in those within it. It fails only when out of memory.
 #[cycle(search)]
 pub(crate) fn first_found<S: Search>(
     alloc: Global,
@@ -68,7 +68,7 @@ pub(crate) fn first_found<S: Search>(
     }
 }
 
-/// The first in a process at these steps behind a path.
+/// The first in a process at these steps after a path.
 #[cycle(search)]
 fn found_behind<S: Search>(
     alloc: Global,
@@ -125,7 +125,7 @@ fn found_in_branches<S: Search>(
     Ok(None)
 }
 
-/// The first in what an ALT does behind its guards.
+/// The first in what an ALT does after its guards.
 #[cycle(search)]
 fn found_in_guards<S: Search>(
     alloc: Global,

@@ -31,7 +31,7 @@ fn push_header(out: &mut Vec<u8>, header: u16) -> Result<(), Memory>
     push_number(out, u64::from(header))
 }
 
-/// These headers, behind the random one.
+/// These headers, after the random one.
 fn put_in_front(alloc: Global, value: Option<u16>, headers: &[u16]) -> Result<Vec<u16>, Memory>
     ensures { IfOk result (λ all. all.items ≡ headers_in_front value headers.now) }
 {
@@ -78,7 +78,7 @@ fn after_link<'a>(links: &[u8], link: u8, headers: &'a [u16]) -> &'a [u16]
     }
 }
 
-/// The headers of a packet behind its hop through this switch.
+/// The headers of a packet after its hop through this switch.
 fn behind_switch(
     alloc: Global,
     switch: &SwitchPlan,
@@ -95,7 +95,7 @@ fn behind_switch(
     Ok(left)
 }
 
-/// The headers of a packet behind a hop.
+/// The headers of a packet after a hop.
 fn headers_behind(
     alloc: Global,
     plan: &Plan,

@@ -152,7 +152,7 @@ impl Wanted {
         }
     }
 
-    /// Whether a variable that is wanted stands in the expression.
+    /// Whether a variable that is wanted is in the expression.
     pub(crate) fn has_expression(self, number: &Expr) -> bool
         ensures { result ≡ wants self (expression (in_exp (exp number.now))) }
     {
@@ -162,7 +162,7 @@ impl Wanted {
         }
     }
 
-    /// Whether a variable that is wanted stands in the condition.
+    /// Whether a variable that is wanted is in the condition.
     pub(crate) fn has_condition(self, cond: &Cond) -> bool
         ensures { result ≡ wants self (expression (in_test (as_test cond.now))) }
     {
@@ -172,7 +172,7 @@ impl Wanted {
         }
     }
 
-    /// Whether a variable that is wanted stands in the value.
+    /// Whether a variable that is wanted is in the value.
     pub(crate) fn has_value(self, value: &Value) -> bool
         ensures { result ≡ wants self (expression (in_given (given value.now))) }
     {

@@ -102,7 +102,7 @@ fn push_message(
     }
 }
 
-/// The place of a guard behind the path of its ALT.
+/// The place of a guard after the path of its ALT.
 fn push_guard(out: &mut Vec<u8>, guard: Option<u16>) -> Result<(), Memory>
     ensures { OnOk result (out.new.items ≡ out.old.items ++ guard_text guard) }
 {
@@ -326,7 +326,7 @@ fn push_verdict(
     }
 }
 
-/// The line of the wires, behind its first word.
+/// The line of the wires, after its first word.
 fn push_wires(
     alloc: Global,
     out: &mut Vec<u8>,

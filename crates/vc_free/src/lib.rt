@@ -49,7 +49,7 @@ pub fn free_placements_do_the_same()
 {}
 
 /// Where no event can happen on an accepted plan's network, under either waiting rule, if its ports have ranks, its processes stand still
-/// side by side as well: what the network did has a linearization, by whose steps each process comes to where it stands on the network,
+/// side by side as well: what the network did has a linearization, by whose steps each process comes to where it is on the network,
 /// but for outputs that have begun and inputs that wait. There no site can go on by itself, and no two can communicate but on a channel
 /// that is stopped. So a free network is stuck only where one transputer could be.
 pub fn a_quiet_free_network_is_quiet()

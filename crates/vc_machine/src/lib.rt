@@ -140,7 +140,7 @@ pub fn a_step_is_one_actors()
     ensures own { (net : Net) (back : ℕ → ℕ) (waiting : Waiting) → StepsAreLocal net back waiting }
 {}
 
-/// In the example's network a switch draws a header: of the range of 101 and 102 the word 7 draws 102, which comes to stand in front as a
+/// In the example's network a switch draws a header: of the range of 101 and 102 the word 7 draws 102, which comes to the front as a
 /// packet's first byte passes.
 #[tactic(auto, using(crate::proofs::FirstBytes::drawn_header))]
 pub fn a_header_is_drawn()
@@ -151,7 +151,7 @@ pub fn a_header_is_drawn()
 {}
 
 /// In wormhole a packet goes on before its mark: in the example's network a switch puts its first byte while no mark has come, and the
-/// packet still stands in its sender's queue. In store and forward no packet is bound before its mark has come.
+/// packet still is in its sender's queue. In store and forward no packet is bound before its mark has come.
 #[tactic(auto, using(crate::proofs::FirstBytes::goes_before_its_mark, crate::proofs::FirstBytes::waits_for_its_mark))]
 pub fn a_packet_goes_on_before_its_mark()
     ensures wormhole { (u : Tokens) ×

@@ -4,7 +4,7 @@
 //! local run (`specs/LocalRun`), and the merge of what all did by themselves is a run of the network (`specs/Merge`). These laws are
 //! lemmas over any actors, acts and items, since a clause cannot range over a type.
 //!
-//! The laws of this file are of processes that are numbered by their states, with steps that a test tells; `vc_accepted` has them of
+//! The laws of this file are of processes that are numbered by their states, with steps that a test decides; `vc_accepted` has them of
 //! processes of occam.
 #![tactic(auto)]
 

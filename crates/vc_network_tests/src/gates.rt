@@ -84,7 +84,7 @@ fn run<R: Threads + Wait + Sync, G: Gate>(
     }
 }
 
-/// Holds the first turns of both nodes until both stand there.
+/// Holds the first turns of both nodes until both are there.
 #[derive(Drop)]
 struct Together {
     here: AtomicU64,

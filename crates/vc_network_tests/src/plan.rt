@@ -75,13 +75,13 @@ fn refusal(alloc: Global, text: &str) -> Result<CheckRefused, Fail> {
     }
 }
 
-/// Why a network is refused, with all that the refusal tells.
+/// Why a network is refused, with all that the refusal says.
 fn told(alloc: Global, text: &str) -> Result<String, Fail> {
     let why = refusal(alloc, text)?;
     Ok(format!(in alloc; "{why:?}")?)
 }
 
-/// What a row shows, a network, and all that its refusal tells.
+/// What a row shows, a network, and all that its refusal says.
 const REFUSED: &[(&str, &str, &str)] = &[
     (
         "a header too few leaves none at the node",

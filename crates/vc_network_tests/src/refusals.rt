@@ -19,7 +19,7 @@ const EVENTS: &[Event] = &[
     event!(0, take 0 7),
 ];
 
-/// Whether the network is the one after the first three events: it shows the same, and goes on by the two behind the refused one, and
+/// Whether the network is the one after the first three events: it shows the same, and goes on by the two after the refused one, and
 /// then by that one.
 fn goes_on(network: &mut Network, before: &Network) -> bool {
     network.offered(0).len() == 1
@@ -29,7 +29,7 @@ fn goes_on(network: &mut Network, before: &Network) -> bool {
         && network.step(&EVENTS[3]).is_ok()
 }
 
-/// Whether the list is refused at its event 3, which is not enabled, and the network before it is told.
+/// Whether the list is refused at its event 3, which is not enabled, and the network before it is given back.
 fn is_refused(alloc: Global, accepted: &Accepted) -> Result<bool, Fail> {
     let before = replayed(alloc, accepted, &EVENTS[..3])?;
     match replay(alloc, accepted, EVENTS) {

@@ -31,9 +31,9 @@ enum Step {
     Makes(u8, Act),
     /// The act is not enabled.
     Refuses(u8, Act),
-    /// The packet of channel 0 stands there.
+    /// The packet of channel 0 is there.
     Stands(Place),
-    /// All go on, the actors in turn, until the packet of channel 0 stands there; and until then this act is not enabled.
+    /// All go on, the actors in turn, until the packet of channel 0 is there; and until then this act is not enabled.
     Waits(u8, Act, Place),
     /// The act was made so often.
     Made(u8, Act, usize),

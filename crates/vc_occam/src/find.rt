@@ -1,4 +1,4 @@
-//! Where a site stands among frames, and what it is about to do there.
+//! Where a site is among frames, and what it is about to do there.
 ghost use Rattle.std.specs.Prelude.{◌≡◌, ℕ, ◌<◌, ◌↔◌, IfOk, IfSome, IsTrue, MatchOption, Some, length, true};
 ghost use Rattle.std.specs.List.{Contains};
 ghost use Rattle.vc_occam.specs.Frames.{plans_of, rest_of, view};
@@ -228,7 +228,7 @@ impl Output {
     }
 }
 
-/// The place of the part that has a site: the last that begins at this site or before it. It is looked for first where it stands
+/// The place of the part that has a site: the last that begins at this site or before it. It is looked for first where it is
 /// if all parts are as long as the first one, and else by halving.
 pub(crate) fn part_with(tasks: &[Task<Frame>], site: u16) -> usize
     requires { PartsInPreorder (plans_of (task_views tasks.now)) }

@@ -20,7 +20,7 @@ use std::alloc::Global;
 use vc_packets::Memory;
 use vc_process::{Branch as WrittenBranch, Cond, Expr, Guard as WrittenGuard, Process};
 
-/// A process that begins, its sites being numbered from `next` on, which is then the first site behind them.
+/// A process that begins, its sites being numbered from `next` on, which is then the first site after them.
 #[cycle(framing)]
 #[tactic(auto, unfolding(vc_process::specs::InOrder::number, vc_process::specs::Private::InOrder::number_branch, vc_process::specs::Private::InOrder::number_guard))]
 pub(crate) fn task_of(

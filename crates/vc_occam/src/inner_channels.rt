@@ -24,7 +24,7 @@ impl Model for InnerChannels {
 }
 
 impl InnerChannels {
-    /// These channels, which may stand in any order.
+    /// These channels, which may be in any order.
     pub(crate) fn new(alloc: Global, channels: &[u16]) -> Result<InnerChannels, Memory>
         ensures { IfOk result (λ inside. among inside ≡ among channels.now) }
     {

@@ -1,6 +1,6 @@
 //! Processes of occam 2.1 on one node: their meaning, and their running.
 //!
-//! A [`Process`], as it is written, and what is asked of it stand below, in vc_process, and are handed on here. Which communications
+//! A [`Process`], as it is written, and what is asked of it are below, in vc_process, and are handed on here. Which communications
 //! a process may make, what remains of it and what it may begin with are definitions over plain trees (`specs/Traces`,
 //! `specs/Remains`, `specs/First`), for every word of the language.
 //!
@@ -11,7 +11,7 @@
 //! to be a step without a communication, [`Running::act_quietly`] makes one, and [`Running::make_steps`] makes many in a row;
 //! [`Running::first_from`] finds the first move at a site from one on, without a list.
 //!
-//! Laws of the definitions, for every word of the language, stand in `laws.rt`: where parts side by side keep their variables apart,
+//! Laws of the definitions, for every word of the language, are in `laws.rt`: where parts side by side keep their variables apart,
 //! what a step makes, followed by any trace of what remains, is a trace of what remained before; each trace of a lawful process is
 //! made by steps, so its two meanings agree (`specs/Completeness`), and by meetings alone where all its channels
 //! are inside its node (`specs/Exchanges`); no step loses lawful use; each listed move can be made; an output

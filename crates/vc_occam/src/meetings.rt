@@ -16,7 +16,7 @@ use std::alloc::Global;
 use vc_packets::Memory;
 
 /// Of so many moves or fewer each is held against each output. To put them in order of channel first takes a tenth more instructions
-/// where 12 outputs stand beside an ALT of 12 guards, a fiftieth more where there are 16 of each, and a fifth less where there are 24.
+/// where 12 outputs are beside an ALT of 12 guards, a fiftieth more where there are 16 of each, and a fifth less where there are 24.
 const FEW: usize = 32;
 
 /// Whether the move needs no channel inside the node.

@@ -27,7 +27,7 @@ pub(crate) fn by_channel(alloc: Global, moves: &[Move]) -> Result<Vec<Move>, Mem
     Ok(found)
 }
 
-/// The place of the first input or guard on a channel, or where it would stand.
+/// The place of the first input or guard on a channel, or where it would be.
 pub(crate) fn first_on(chan: u16, moves: &[Move]) -> usize
     requires { IsNonDecreasingBy key moves.now }
     ensures { IsPartitionPoint (λ m. nat_le (key m) chan ≡ true) (λ m. nat_le (key m) chan ≡ false)

@@ -292,7 +292,7 @@ impl Running {
     }
 
     /// The first move at a site from this one on, found without a list. Where a channel is inside the node none is looked for, since
-    /// an output and an input meet there that may stand anywhere.
+    /// an output and an input meet there that may be anywhere.
     #[tactic(auto, unfolding(crate::specs::Runnings::state, crate::specs::Runnings::inner_channels))]
     pub fn first_from(&self, site: u16) -> Option<Move>
         ensures listed { IfSome result (λ made. Contains (moves self.now) made) }

@@ -4,7 +4,7 @@ use smallvec::SmallVec;
 use std::alloc::{AllocError, Global};
 use std::marker::Model;
 
-/// A list of bytes, which contracts see as the list. Up to 16 bytes stand in the value itself, so that numbers, short texts and
+/// A list of bytes, which contracts see as the list. Up to 16 bytes are in the value itself, so that numbers, short texts and
 /// acknowledges take no memory of their own.
 #[derive(Debug, Drop)]
 pub struct Bytes {
@@ -40,7 +40,7 @@ impl Bytes {
         Ok(Bytes { bytes })
     }
 
-    /// The bytes of a vector, where they stand.
+    /// The bytes of a vector, where they are.
     pub fn from_vec(bytes: Vec<u8>) -> Bytes
         ensures { result ≡ bytes.items }
     {

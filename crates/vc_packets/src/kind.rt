@@ -18,7 +18,7 @@ pub enum Kind {
     Malformed,
 }
 
-/// The kind of the packet with these bytes behind its block's header, and this mark ("Networks, Routers and Transputers",
+/// The kind of the packet with these bytes after its block's header, and this mark ("Networks, Routers and Transputers",
 /// chapter 2).
 pub fn kind_of(bytes: &[u8], mark: Mark) -> Kind
     ensures { result ≡ kind bytes.now mark }

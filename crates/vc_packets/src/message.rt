@@ -23,7 +23,7 @@ pub fn pieces(len: usize) -> usize
     len.saturating_sub(1) / FULL + 1
 }
 
-/// The packet of a message's piece number `k`, counted from 0, behind a route's headers.
+/// The packet of a message's piece number `k`, counted from 0, after a route's headers.
 pub fn piece(alloc: Global, route: &[u16], msg: &[u8], k: usize) -> Result<Packet, Memory>
     requires { k < piece_count (length msg.now) }
     ensures { IfOk result
@@ -40,7 +40,7 @@ pub fn piece(alloc: Global, route: &[u16], msg: &[u8], k: usize) -> Result<Packe
     Ok(Packet { body, mark })
 }
 
-/// The acknowledge behind a route's headers: a packet with no data.
+/// The acknowledge after a route's headers: a packet with no data.
 pub fn ack(alloc: Global, route: &[u16]) -> Result<Packet, Memory>
     ensures { IfOk result (λ packet. packet ≡ ack_packet route.now) }
 {

@@ -25,7 +25,7 @@ enum Output<'a> {
     Sends(&'a [u8], Mark),
     /// Whether the packet under way is its message's last.
     IsLast(bool),
-    /// The packet behind the one under way has this body and mark.
+    /// The packet after the one under way has this body and mark.
     SendsNext(&'a [u8], Mark),
     /// The packet under way is acknowledged.
     Acked(Advance),

@@ -1,4 +1,4 @@
-//! Tests of what stands under nodes, switches and networks, over the libraries' public calls: packets, tokens, credit, the halves of a
+//! Tests of what is under nodes, switches and networks, over the libraries' public calls: packets, tokens, credit, the halves of a
 //! virtual link, interval tables; and of the processes of vc_occam an example for each word and each fault as it runs, what meets
 //! inside a node, and which use is lawful. These processes are written as in a network file, and each is a row of a table, so that the
 //! prover sees a few functions and not one for each example.

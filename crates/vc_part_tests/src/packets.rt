@@ -48,7 +48,7 @@ fn the_longest_message_ends_with_31_bytes(rt: HostRuntime) -> Result<(), Fail> {
     Ok(())
 }
 
-/// How many bytes a packet carries behind its header, its mark, and its kind.
+/// How many bytes a packet carries after its header, its mark, and its kind.
 const KINDS: &[(usize, Mark, Kind)] = &[
     (0, Mark::Eop, Kind::Ack),
     (0, Mark::Eom, Kind::Piece { last: true }),

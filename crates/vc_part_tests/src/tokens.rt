@@ -84,7 +84,7 @@ fn count(fed: Result<Vec<Packet>, Refused>) -> Option<usize> {
     }
 }
 
-/// How many packets end with as many bytes as the limit, and how many with the mark behind them.
+/// How many packets end with as many bytes as the limit, and how many with the mark after them.
 fn fed_full(alloc: Global, limit: usize) -> Result<(Option<usize>, Option<usize>), Fail> {
     let mut decoder = Decoder::new(alloc, limit)?;
     let full = vec![in alloc; Token::Byte(7); limit]?;
@@ -132,7 +132,7 @@ fn a_byte_past_the_limit_is_refused_for_good(rt: HostRuntime) -> Result<(), Fail
     Ok(())
 }
 
-/// Whether a feed was refused for a stray token behind the acknowledge for block 1.
+/// Whether a feed was refused for a stray token after the acknowledge for block 1.
 fn is_stray_behind_an_acknowledge(fed: Result<Vec<Packet>, Refused>) -> bool {
     match fed {
         Ok(_) => false,

@@ -14,7 +14,7 @@ pub enum CheckRefused {
     /// A limit is broken.
     #[error("a limit is broken: {0}")]
     Limit(LimitWord),
-    /// A port stands on two wires, or at both ends of one.
+    /// A port is on two wires, or at both ends of one.
     #[error("a port stands on two wires")]
     PortTwice(Port),
     /// The end of a virtual link sends by a port that is on no wire.
@@ -54,7 +54,7 @@ pub enum CheckRefused {
     /// Both ends of the virtual link of this number are on one node.
     #[error("virtual link {0} has both ends on one node")]
     SameNode(u16),
-    /// The channel of this number stands on one way with another, or a process uses it elsewhere, at the wrong end, or with the
+    /// The channel of this number is on one way with another, or a process uses it elsewhere, at the wrong end, or with the
     /// wrong kind.
     #[error("channel {0} stands or is used as it may not be")]
     Channel(u16),

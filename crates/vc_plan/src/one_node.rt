@@ -12,7 +12,7 @@ use std::alloc::Global;
 use vc_packets::Memory;
 use vc_process::Process;
 
-/// The processes of all nodes, each over variables that stand behind those of the nodes before it.
+/// The processes of all nodes, each over variables that follow those of the nodes before it.
 fn processes(alloc: Global, nodes: &Items<NodePlan>) -> Result<Items<Process>, Memory>
     requires { length (all_vars nodes.now) ≤ 64 }
     ensures processes { IfOk result (λ parts. AreTogether nodes.now parts) }

@@ -76,7 +76,7 @@ impl Plan {
         }
     }
 
-    /// The name of an actor: the nodes are the first actors, and the switches those behind them. No bytes where there is none.
+    /// The name of an actor: the nodes are the first actors, and the switches those after them. No bytes where there is none.
     pub fn actor_name(&self, actor: usize) -> &[u8]
         ensures { result.now ≡ name_of_actor self.now actor }
     {

@@ -21,7 +21,7 @@ pub(crate) enum Passage {
     Stops(Fault),
 }
 
-/// These headers, behind the random one.
+/// These headers, after the random one.
 pub(crate) fn headers_behind(
     alloc: Global,
     value: Option<u16>,

@@ -19,7 +19,7 @@ pub enum BytesExpr {
     Fill {
         /// The byte.
         byte: u8,
-        /// How often it stands.
+        /// How often it is written.
         count: u32,
     },
 }

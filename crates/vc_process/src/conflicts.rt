@@ -106,7 +106,7 @@ fn first_clash(uses: &[PartUsage]) -> Option<Used>
     None
 }
 
-/// What is told of a clash.
+/// What is reported of a clash.
 fn fault_by(used: Used) -> UseFault
     ensures { result ≡ fault_of used }
 {
@@ -117,7 +117,7 @@ fn fault_by(used: Used) -> UseFault
     }
 }
 
-/// Accepts exactly the parts that may run side by side, else tells the least channel that two of them output on, else the least
+/// Accepts exactly the parts that may run side by side, else reports the least channel that two of them output on, else the least
 /// that two input on, else the least variable that one changes and another uses.
 pub(crate) fn check_parts(alloc: Global, parts: &Items<Process>) -> Result<(), UseFault>
     ensures { (site : ℕ) →

@@ -1,4 +1,4 @@
-//! What was copied, in a box or behind others.
+//! What was copied, in a box or after others.
 ghost use Rattle.std.specs.Prelude.{◌≡◌, [], ◌∷◌, ◌++◌, IfOk, Ok, OnOk};
 ghost use Rattle.std.specs.Result.{IsOkAnd};
 

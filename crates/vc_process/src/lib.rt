@@ -9,7 +9,7 @@
 //! A variable holds a [`Datum`]. A message of another length than 8 on a channel of whole numbers is worth the number of its first
 //! eight bytes, missing ones being 0 (`specs/Messages`).
 //!
-//! [`check_use`] accepts exactly the processes that use channels and variables lawfully, and else tells the first offender. Of each
+//! [`check_use`] accepts exactly the processes that use channels and variables lawfully, and else reports the first offender. Of each
 //! PAR it lists what its parts use, puts that in order, and compares all uses of one thing with the first of them (`conflicts.rt`).
 //! That what it says against a process is right, and that there is nothing else to say, is a law (`laws.rt`).
 #![tactic(auto)]

@@ -24,7 +24,7 @@ fn push_changing(uses: &mut Items<Usage>, used: Used) -> Result<(), Memory>
     Ok(())
 }
 
-/// Adds that the variable stands in an expression.
+/// Adds that the variable is in an expression.
 fn push_reading(uses: &mut Items<Usage>, var: u8) -> Result<(), Memory>
     ensures { OnOk result (uses.new ≡ uses.old ++ as_reading var ∷ []) }
 {

@@ -17,10 +17,10 @@ use crate::use_fault::UseFault;
 use sqlite_items::Items;
 use std::alloc::Global;
 
-/// Accepts exactly the processes that use channels and variables lawfully, else tells the first offender, PARs and replicated SEQs
+/// Accepts exactly the processes that use channels and variables lawfully, else reports the first offender, PARs and replicated SEQs
 /// taken by site: of a PAR the least channel that two parts output on, else the least that two input on, else the least variable
 /// that one changes and another uses; of a replicated SEQ its index, where the body changes it (occam 2.1 manual, replication).
-/// A process with lawful use is refused for want of memory alone.
+/// A process with lawful use is refused only when out of memory.
 pub fn check_use(alloc: Global, process: &Process) -> Result<(), UseFault>
     ensures verdict { MatchResult result (λ _. Lawfully (written process.now))
         (λ fault. IsUseFault (written process.now) fault) }

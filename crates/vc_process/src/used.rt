@@ -5,9 +5,9 @@
 pub(crate) enum Used {
     /// The channel is output on.
     Output(u16),
-    /// The channel is input on, stands in a guard, or is stopped.
+    /// The channel is input on, is in a guard, or is stopped.
     Input(u16),
-    /// The variable is changed, or stands in an expression.
+    /// The variable is changed, or is in an expression.
     Variable(u8),
 }
 
@@ -16,7 +16,7 @@ pub(crate) enum Used {
 pub(crate) struct Usage {
     /// What is used.
     pub(crate) used: Used,
-    /// Whether it is a variable that stands in an expression, and isn't changed here.
+    /// Whether it is a variable that is in an expression, and isn't changed here.
     pub(crate) reads: bool,
 }
 
@@ -25,7 +25,7 @@ pub(crate) struct Usage {
 pub(crate) struct PartUsage {
     /// What is used.
     pub(crate) used: Used,
-    /// Whether it is a variable that stands in an expression, and isn't changed here.
+    /// Whether it is a variable that is in an expression, and isn't changed here.
     pub(crate) reads: bool,
     /// The part's place in the PAR.
     pub(crate) part: usize,

@@ -80,7 +80,7 @@ fn hex_pair(alloc: Global, a: u8, b: u8) -> Result<u8, Stop>
     Ok(16 * high + low)
 }
 
-/// The bytes before, with the one that was read behind them.
+/// The bytes before, with the one that was read after them.
 fn with_byte(before: Items<u8>, byte: Result<u8, Stop>) -> Result<Items<u8>, Stop>
     ensures { (meant : Result ℕ FaultData) →
         Gives (λ x. x) byte meant →

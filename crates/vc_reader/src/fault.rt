@@ -12,7 +12,7 @@ pub enum Why {
     /// A field is missing.
     Missing,
     /// A value is of another kind than its place wants: also a list of another length, a text that is none of the words that may
-    /// stand there, a text that is no name, and a name that was given before.
+    /// be there, a text that is no name, and a name that was given before.
     Kind,
     /// A whole number is out of its range, or bytes are too long.
     Range,

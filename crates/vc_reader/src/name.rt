@@ -83,7 +83,7 @@ pub(crate) fn known<T: Drop>(alloc: Global, found: Option<T>) -> Result<T, Stop>
     }
 }
 
-/// The one that has the name, behind its number.
+/// The one that has the name, after its number.
 pub(crate) fn one_of<'a, N: Named + Drop>(
     alloc: Global,
     among: &'a Register<N>,

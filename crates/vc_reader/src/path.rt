@@ -1,4 +1,4 @@
-//! Where a value stands in the network file.
+//! Where a value is in the network file.
 ghost use Rattle.std.specs.Prelude.{◌≡◌, ◌==◌, ◌<◌, [], ◌∷◌, IfOk, Some, length, slice_get};
 
 use crate::word::Word;
@@ -33,7 +33,7 @@ impl Model for Path {
 }
 
 impl Path {
-    /// The path to where one stands. It takes no memory.
+    /// The path to this place. It takes no memory.
     pub(crate) fn here(alloc: Global) -> Path
         ensures { result ≡ [] }
     {

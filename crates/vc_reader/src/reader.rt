@@ -51,7 +51,7 @@ pub(crate) trait NamedReader {
         ensures { Gives (λ x. x) result (meaning self.now before.now (view value.now)) };
 }
 
-/// The value where one stands is at fault.
+/// The value at this place is at fault.
 pub(crate) fn wrong(alloc: Global, why: Why) -> Stop
     ensures { result ≡ Stop.Fault (record { why = why; path = [] }) }
 {
@@ -187,7 +187,7 @@ pub(crate) fn array(alloc: Global, value: &Value) -> Result<&[Value], Stop>
     }
 }
 
-/// What was read of a list, with the item that was read behind it.
+/// What was read of a list, with the item that was read after it.
 pub(crate) fn with_item<T: Drop>(before: Items<T>, item: Result<T, Stop>) -> Result<Items<T>, Stop>
     ensures { (meant : Result T FaultData) →
         Gives (λ x. x) item meant →
@@ -231,7 +231,7 @@ pub(crate) fn list_field<R: ItemReader>(
     under(Step::Field(word), read)
 }
 
-/// What was read of a list of named things, with the one that was read behind it.
+/// What was read of a list of named things, with the one that was read after it.
 fn with_named<T: Named + Drop>(
     alloc: Global,
     before: Register<T>,

@@ -15,7 +15,7 @@ pub enum ReadRefused {
     #[error("a field is missing")]
     Missing(Path),
     /// A value is of another kind than its place wants: also a list of another length, a text that is none of the words that may
-    /// stand there, a text that is no name, and a name that was given before.
+    /// be there, a text that is no name, and a name that was given before.
     #[error("a value is of another kind than its place wants")]
     Kind(Path),
     /// A whole number is out of its range, or bytes are too long.

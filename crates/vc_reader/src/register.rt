@@ -96,7 +96,7 @@ impl<T: Named + Drop> Register<T> {
         self.numbers.contains_key(name)
     }
 
-    /// The first that has the name, behind its number.
+    /// The first that has the name, after its number.
     pub(crate) fn find(&self, name: &[u8]) -> Option<(usize, &T)>
         ensures { option_map (λ p. (p.0, p.1.now)) result ≡ found_of T.name_of self.now name.now }
     {

@@ -41,7 +41,7 @@ pub enum Word {
 }
 
 impl Word {
-    /// The word as it stands in the file.
+    /// The word as it is in the file.
     pub fn text(self) -> &'static str
         ensures { result.now ≡ word_text self }
     {

@@ -85,8 +85,8 @@ impl Buffers {
         Ok(())
     }
 
-    /// An event came behind so many others, and the network is the one after it. It costs time that does not depend on the network. It fails
-    /// for want of memory alone.
+    /// An event came after so many others, and the network is the one after it. It costs time that does not depend on the network. It fails
+    /// only when out of memory.
     pub(crate) fn follow(
         &mut self,
         network: &Network,

@@ -1,8 +1,8 @@
-//! How counts are told.
+//! How counts are written.
 ghost use Rattle.std.specs.Prelude.{◌≡◌};
 ghost use Rattle.vc_stats.specs.Fields.{text_in};
 
-/// How the counts of a run are told.
+/// How the counts of a run are written.
 #[derive(Clone, Copy, Debug, PartialEq, Eq, Drop)]
 pub enum Form {
     /// As lines of words.

@@ -14,7 +14,7 @@ pub(crate) fn push_comma(out: &mut Vec<u8>, n: usize) -> Result<(), Memory>
     Ok(())
 }
 
-/// Adds what stands before the n-th item of a list, which has a line of its own.
+/// Adds what comes before the n-th item of a list, which has a line of its own.
 #[tactic(auto, using(std::proofs::Common::append_assoc))]
 pub(crate) fn push_line_start(out: &mut Vec<u8>, n: usize) -> Result<(), Memory>
     ensures { OnOk result (out.new.items ≡ out.old.items ++ line_start n) }

@@ -32,7 +32,7 @@ pub(crate) enum Kind {
     Pass,
 }
 
-/// The kinds, in the order in which they are told.
+/// The kinds, in the order in which they are written.
 pub(crate) const KINDS: [Kind; 11] = [
     Kind::Offer,
     Kind::Want,
@@ -95,7 +95,7 @@ impl Kind {
         }
     }
 
-    /// The word by which an event of this kind is told.
+    /// The word by which an event of this kind is written.
     pub(crate) fn word(self) -> &'static [u8]
         ensures { result.now ≡ word_of self }
     {

@@ -49,7 +49,7 @@ fn port_on(plan: &Plan, way: usize, is_one: bool) -> Port
 }
 
 impl Monitor {
-    /// Of a run that is about to begin. It fails for want of memory alone.
+    /// Of a run that is about to begin. It fails only when out of memory.
     pub(crate) fn new(alloc: Global, plan: &Plan) -> Result<Monitor, Memory>
         requires { IsAccepted plan.now }
         ensures { IfOk result (λ monitor. (s : State) →
@@ -106,7 +106,7 @@ impl Monitor {
         Ok(ways)
     }
 
-    /// The figures of the states between the events of a run of this plan. It fails for want of memory alone.
+    /// The figures of the states between the events of a run of this plan. It fails only when out of memory.
     pub(crate) fn states(&self, alloc: Global, plan: &Plan) -> Result<StateFigures, Memory>
         requires { IsAccepted plan.now }
         ensures { (es : List Happening) (xs : List NetworkState) (x : NetworkState) →

@@ -100,7 +100,7 @@ impl Packets {
     }
 
     /// Counts what an event puts, if it puts a token; the network is the one after it. It costs time that does not depend on the network.
-    /// It fails for want of memory alone, and nothing is known of the counts then.
+    /// It fails only when out of memory, and nothing is known of the counts then.
     pub(crate) fn follow(&mut self, network: &Network, event: &Event) -> Result<(), Memory>
         ensures { OnOk result ((p : Plan) (es : List Happening) (xs : List NetworkState)
             (s : State) →

@@ -1,4 +1,4 @@
-//! How many tokens stand on wires at most.
+//! How many tokens are on wires at most.
 ghost use Rattle.std.specs.Prelude.{◌≡◌, ◌≤◌, ◌<◌, ◌+◌, ◌*◌, ◌∷◌, ◌++◌, [], ℕ, List, length, slice_get, Some, IfOk, OnOk};
 ghost use Rattle.vc_accepted.specs.Begin.{begin_of};
 ghost use Rattle.vc_accepted.specs.NetworkOf.{network_of, port_at};
@@ -15,7 +15,7 @@ use vc_core::{Act, Event, Network};
 use vc_packets::Memory;
 use vc_plan::{Plan, Spot, Wire};
 
-/// How many tokens stand on each way of each wire at most. Way 2 n goes from port one to port two of wire n, and way 2 n + 1 back.
+/// How many tokens are on each way of each wire at most. Way 2 n goes from port one to port two of wire n, and way 2 n + 1 back.
 #[derive(Drop)]
 pub(crate) struct Peaks {
     // the ways, by the actor that puts tokens on them
@@ -102,7 +102,7 @@ fn raise_all(most: &mut Vec<u64>, ways: &[u16], network: &Network)
 }
 
 impl Peaks {
-    /// Of a run that is about to begin. It fails for want of memory alone.
+    /// Of a run that is about to begin. It fails only when out of memory.
     pub(crate) fn new(alloc: Global, plan: &Plan) -> Result<Peaks, Memory>
         requires nodes { length plan.now.nodes ≤ 32 }
         requires wires { length plan.now.wires ≤ 256 }

@@ -24,7 +24,7 @@ impl Rows {
         }
     }
 
-    /// A number joins a row, if there is one. It fails for want of memory alone.
+    /// A number joins a row, if there is one. It fails only when out of memory.
     pub(crate) fn add(&mut self, row: Option<u16>, number: u16) -> Result<(), Memory>
         ensures { OnOk result ((k n : ℕ) →
             has self.new k n ≡ (has self.old k n || (is_at k row && number == n))) }

@@ -246,7 +246,7 @@ fn push_channels(
 }
 
 /// Adds the counts of a run to a text: those of all events, of each actor, of both ways of each wire, and of each channel. They are
-/// lines, or a member of a JSON object. It fails for want of memory alone.
+/// lines, or a member of a JSON object. It fails only when out of memory.
 #[tactic(auto, using(std::proofs::Common::append_assoc), unfolding(crate::specs::Sections::stats_text))]
 pub(crate) fn push_stats(
     out: &mut Vec<u8>,

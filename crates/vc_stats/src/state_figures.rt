@@ -5,7 +5,7 @@ ghost use Rattle.vc_stats.specs.StateFigures.{no_figures};
 
 use std::alloc::Global;
 
-/// Figures of a way that the states of a run tell.
+/// Figures of a way that the states of a run show.
 #[derive(Clone, Copy, Drop)]
 pub(crate) struct WayFigures {
     /// How many packets were put whole on it.

@@ -164,7 +164,7 @@ impl Stats {
         self.wants.get(chan)
     }
 
-    /// One event more. It fails for want of memory alone.
+    /// One event more. It fails only when out of memory.
     pub(crate) fn count(&mut self, event: &Event) -> Result<(), Memory>
         ensures { OnOk result ((es : List Event) → Counts self.old es →
             Counts self.new (es ++ event.now ∷ [])) }

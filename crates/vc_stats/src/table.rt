@@ -25,7 +25,7 @@ impl Table {
         }
     }
 
-    /// A number came in a row, if there is one. It fails for want of memory alone.
+    /// A number came in a row, if there is one. It fails only when out of memory.
     pub(crate) fn count(&mut self, row: u8, number: Option<u16>) -> Result<(), Memory>
         ensures { OnOk result ((k n : ℕ) →
             cell self.new k n ≡ counted (row == k && is_at n number) (cell self.old k n)) }
@@ -35,7 +35,7 @@ impl Table {
         self.rows[place].count(number)
     }
 
-    /// A number came so often in a row. It fails for want of memory alone.
+    /// A number came so often in a row. It fails only when out of memory.
     pub(crate) fn set(&mut self, row: u8, number: u16, times: u64) -> Result<(), Memory>
         ensures { OnOk result ((k n : ℕ) →
             cell self.new k n ≡ cond (row == k && number == n) times (cell self.old k n)) }

@@ -22,7 +22,7 @@ impl Tally {
         }
     }
 
-    /// A number came, if there is one. It fails for want of memory alone.
+    /// A number came, if there is one. It fails only when out of memory.
     pub(crate) fn count(&mut self, number: Option<u16>) -> Result<(), Memory>
         ensures { OnOk result ((n : ℕ) →
             entry self.new n ≡ counted (is_at n number) (entry self.old n)) }
@@ -44,7 +44,7 @@ impl Tally {
         Ok(())
     }
 
-    /// A number came so often. It fails for want of memory alone.
+    /// A number came so often. It fails only when out of memory.
     pub(crate) fn set(&mut self, number: u16, times: u64) -> Result<(), Memory>
         ensures { OnOk result ((n : ℕ) →
             entry self.new n ≡ cond (number == n) times (entry self.old n)) }

@@ -108,7 +108,7 @@ fn turn_all(times: &mut Vec<BusyTime>, chans: &[u16], network: &Network, events:
 }
 
 impl Unfinished {
-    /// Of a run that is about to begin. It fails for want of memory alone.
+    /// Of a run that is about to begin. It fails only when out of memory.
     pub(crate) fn new(alloc: Global, plan: &Plan) -> Result<Unfinished, Memory>
         requires { length plan.now.channels ≤ 512 }
         ensures { IfOk result (λ all. (x : NetworkState) →
@@ -119,7 +119,7 @@ impl Unfinished {
         Ok(Unfinished { outputs, times })
     }
 
-    /// An event came behind so many others. The network is the one after it. It costs time in the number of the channels that the event's
+    /// An event came after so many others. The network is the one after it. It costs time in the number of the channels that the event's
     /// node outputs.
     pub(crate) fn follow(&mut self, network: &Network, event: &Event, before: u64)
         ensures { (p : Plan) (xs : List NetworkState) (s : State) →
@@ -139,7 +139,7 @@ impl Unfinished {
         );
     }
 
-    /// By channel, after how many of so many events it had an output that was not finished. It fails for want of memory alone.
+    /// By channel, after how many of so many events it had an output that was not finished. It fails only when out of memory.
     pub(crate) fn counts(&self, alloc: Global, events: u64) -> Result<Vec<u64>, Memory>
         ensures { IfOk result (λ counts. counts.items ≡
             map (λ time. busy_of time events) self.now.times.items) }

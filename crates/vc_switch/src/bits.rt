@@ -5,7 +5,7 @@ ghost use Rattle.vc_switch.specs.Private.Requests.{HasMore};
 ghost use Rattle.vc_switch.specs.Masks.{IsLowest};
 ghost use Rattle.vc_switch.specs.Private.Ready.{Tells};
 
-/// The mask with one link's bit as told, and the other bits as before.
+/// The mask with one link's bit as given, and the other bits as before.
 pub(crate) fn told(mask: u32, link: u8, is: bool) -> u32
     requires { link < 32 }
     ensures { Tells (IsTrue is) link mask result }

@@ -9,7 +9,7 @@ use vc_labels::{Action, Table};
 /// A front header that has a group.
 #[derive(Clone, Copy, Drop)]
 pub(crate) struct Front {
-    /// At which byte of the body it begins, behind the portals.
+    /// At which byte of the body it begins, after the portals.
     pub(crate) at: usize,
     /// The group's first link.
     pub(crate) first: u8,
@@ -18,7 +18,7 @@ pub(crate) struct Front {
 }
 
 impl Front {
-    /// At which byte a body begins that leaves by a link: at the front header, or behind it where the link deletes it.
+    /// At which byte a body begins that leaves by a link: at the front header, or after it where the link deletes it.
     pub(crate) fn leaves_from(&self, deletes: bool) -> usize
         requires { self.now.at + 2 < 2 ^ 64 }
         ensures { result ≡ start_of deletes self.now }
@@ -39,7 +39,7 @@ impl Front {
     }
 }
 
-/// Where a body's front header stands and what its group is, where the header is there and has a group.
+/// Where a body's front header is and what its group is, if the header is there and has a group.
 #[inline(always)]
 pub(crate) fn find_front(table: &Table, body: &[u8]) -> Option<Front>
     ensures front { result ≡ front_of table.now body.now }

@@ -26,7 +26,7 @@ use vc_tokens::{Assembler, Token};
 pub(crate) struct Bound {
     /// The output link.
     pub(crate) output: u8,
-    /// At which byte of the packet what leaves begins: headers of portals stay behind, and a deleted header.
+    /// At which byte of the packet what leaves begins: headers of portals are left out, and a deleted header.
     pub(crate) from: usize,
     /// How many bytes have been put.
     pub(crate) sent: usize,
@@ -39,7 +39,7 @@ pub(crate) struct LinkIn {
     pub(crate) receiver: Receiver,
     /// The word of the latest take.
     pub(crate) word: u32,
-    /// The bytes passed of the packet, behind the random header.
+    /// The bytes passed of the packet, after the random header.
     pub(crate) got: Assembler,
     /// The packet's mark, once it has come whole.
     pub(crate) mark: Option<Mark>,
@@ -129,7 +129,7 @@ impl LinkIn {
         }
     }
 
-    /// The byte at the front passes, behind the header that is drawn for the packet: it joins the packet, or is dropped where the
+    /// The byte at the front passes, after the header that is drawn for the packet: it joins the packet, or is dropped where the
     /// packet has as many as it may.
     pub(crate) fn pass_byte(&mut self, range: Option<RandomRange>, byte: u8) -> bool
         requires limit { 2 ≤ self.old.got.limit }

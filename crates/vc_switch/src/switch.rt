@@ -428,7 +428,7 @@ impl Switch {
         }
     }
 
-    /// The bytes that have passed of the packet at an input, behind the random header.
+    /// The bytes that have passed of the packet at an input, after the random header.
     pub fn passed(&self, link: u8) -> &[u8]
         ensures { result.now ≡ ((seen self.now).input link).got }
     {

@@ -19,6 +19,6 @@ pub struct SwitchPlan<'a> {
     pub table: Table,
     /// The output links that delete the front header of each packet that leaves by them, each 0 to 31.
     pub delete: &'a [u8],
-    /// The input links that put a random header. Where a link stands twice, the first counts.
+    /// The input links that put a random header. If a link is there twice, the first counts.
     pub random: &'a [RandomInput],
 }

@@ -106,7 +106,7 @@ const LINES: &[(&[&str], Result<Line, u8>)] = &[
     (&["vcnet", "--help"], Err(0)),
 ];
 
-/// What the words ask for, or the status of words that ask for nothing and are told why.
+/// What the words ask for, or the status of words that ask for nothing and get the reason.
 fn asked(alloc: Global, words: &[&str]) -> Option<Result<Line, u8>> {
     match command(alloc, words) {
         Ok(line) => Some(Ok(line)),

@@ -86,7 +86,7 @@ fn a_reader_has_so_many_reads_to_end(rt: HostRuntime) {
     );
 }
 
-/// What a check answers of the hello network with spaces behind it, of so many bytes in all.
+/// What a check answers of the hello network with spaces after it, of so many bytes in all.
 fn check_padded(alloc: Global, len: usize) -> Answer {
     let text = HELLO.as_bytes();
     let spaces = len.saturating_sub(text.len());

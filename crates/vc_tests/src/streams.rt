@@ -43,7 +43,7 @@ impl Read for Spaces {
     }
 }
 
-/// Gives a text, and behind it so many spaces, as many at a read as it may.
+/// Gives a text, and after it so many spaces, as many at a read as it may.
 #[derive(Drop)]
 pub(crate) struct Padded<'a> {
     pub(crate) text: &'a [u8],

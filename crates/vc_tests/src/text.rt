@@ -32,7 +32,7 @@ fn writes_the_traffic(rt: HostRuntime) {
     assert_eq!(rt; out.as_slice(), HELLO_TRAFFIC.as_bytes());
 }
 
-/// Whether a fault is told and a front of the traffic is written, where the writer fails or takes nothing at that call.
+/// Whether a fault is reported and a prefix of the traffic is written, where the writer fails or takes nothing at that call.
 fn leaves_a_front(alloc: Global, calls_left: usize, fails: bool) -> bool {
     let mut writer = Stubborn {
         taken: Vec::new(alloc),

@@ -46,7 +46,7 @@ pub fn read_accepted<R: Read>(alloc: Global, reader: &mut R) -> Result<Accepted,
     accept_text(alloc, text.as_slice())
 }
 
-/// The line of an accepted network: how many nodes, switches, virtual links and channels it has. It fails for want of memory alone.
+/// The line of an accepted network: how many nodes, switches, virtual links and channels it has. It fails only when out of memory.
 #[tactic(auto, using(std::proofs::Common::append_assoc), unfolding(crate::specs::CheckText::accepted_text))]
 pub fn accepted_text(alloc: Global, plan: &Plan) -> Result<Vec<u8>, Memory>
     ensures { IfOk result (λ text. text.items ≡ text_of_accepted plan.now) }

@@ -11,7 +11,7 @@ use vc_core::{Close, Network};
 use vc_packets::Memory;
 
 /// How a run ends that came to the state of a network: done where every process has ended, as runs in threads do, quiet where no event can
-/// happen, and at its limit where one can. The network stays as it is. It fails for want of memory alone.
+/// happen, and at its limit where one can. The network stays as it is. It fails only when out of memory.
 pub fn close_of(network: &mut Network) -> Result<Close, Memory>
     ensures closes { (p : Plan) → IsNetworkOf p (state_of network.old) →
         IfOk result (ClosesIn p (shown (state_of network.old))) }

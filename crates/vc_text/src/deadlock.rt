@@ -13,7 +13,7 @@ use vc_packets::Memory;
 use vc_plan::{Plan, Port};
 use vc_waits::push_port;
 
-/// A port behind a space.
+/// A port after a space.
 fn push_next(out: &mut Vec<u8>, plan: &Plan, port: Port) -> Result<(), Memory>
     ensures { OnOk result (out.new.items ≡ out.old.items ++ next_port plan.now port) }
 {
@@ -30,7 +30,7 @@ fn push_ports(out: &mut Vec<u8>, plan: &Plan, ports: &[Port]) -> Result<(), Memo
     Ok(())
 }
 
-/// The line of a network with this cycle. It fails for want of memory alone.
+/// The line of a network with this cycle. It fails only when out of memory.
 pub fn cycle_text(alloc: Global, plan: &Plan, ports: &[Port]) -> Result<Vec<u8>, Memory>
     ensures { IfOk result (λ text. text.items ≡ text_of_cycle plan.now ports.now) }
 {

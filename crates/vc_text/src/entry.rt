@@ -85,7 +85,7 @@ impl Brief {
         }
     }
 
-    /// The words that are left behind it.
+    /// The words that are left after it.
     pub(crate) fn words_left(self, words: &[u32]) -> &[u32]
         ensures { result.now ≡ words_left self words.now }
     {
@@ -95,7 +95,7 @@ impl Brief {
         }
     }
 
-    /// The moves that are left behind it.
+    /// The moves that are left after it.
     pub(crate) fn moves_left(self, moves: &[Move]) -> &[Move]
         ensures { result.now ≡ moves_left self moves.now }
     {

@@ -59,7 +59,7 @@ impl EventLog {
         self.entries.is_empty()
     }
 
-    /// An event joins it as the last. It fails for want of memory alone, and the list is then as it was.
+    /// An event joins it as the last. It fails only when out of memory, and the list is then as it was.
     #[inline(always)]
     pub fn push(&mut self, event: Event) -> Result<(), AllocError>
         ensures ok { OnOk result (self.new ≡ self.old ++ event ∷ []) }

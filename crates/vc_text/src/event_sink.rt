@@ -22,7 +22,7 @@ pub trait EventSink {
 
     ghost left: { Self → Self → Plan → List Event → Type 0 } = { λ _ _ _ _. ⊤ };
 
-    /// Whether it keeps nothing of the events. Then a run may make some of which it is not told.
+    /// Whether it keeps nothing of the events. Then a run may make some that it is not handed.
     fn keeps_none(&self) -> bool
         ensures { result ≡ true →
             (from : Self) (p : Plan) (es es' : List Event) (s t : State) →

@@ -25,7 +25,7 @@ fn push_thread_line(out: &mut Vec<u8>, why: ThreadFault) -> Result<(), Memory>
     Ok(())
 }
 
-/// The line of a fault, and nothing for a fault of the writer. It fails for want of memory alone.
+/// The line of a fault, and nothing for a fault of the writer. It fails only when out of memory.
 pub fn fault_text(alloc: Global, fault: &RunFault) -> Result<Vec<u8>, Memory>
     ensures { IfOk result (λ text. text.items ≡ text_of_fault fault.now) }
 {

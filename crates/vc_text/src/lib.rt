@@ -1,7 +1,7 @@
 //! The texts of the program: the traffic of a network, the line of a fault, and runs from a network's bytes to its traffic's.
 //!
 //! The layer above knows that what is written is exactly the text of what was reached (`specs/Traffic`, `specs/FaultLine`), or a
-//! front of it where the writer failed (`specs/Streams`), over any reader and any writer that tell their bytes.
+//! prefix of it if the writer failed (`specs/Streams`), over any reader and any writer whose bytes are known.
 #![tactic(auto)]
 
 mod check;

@@ -8,7 +8,7 @@ use vc_packets::Memory;
 use vc_plan::{Hop, PathFault, Plan};
 use vc_waits::{push_port, push_texts};
 
-/// Adds a passage through a switch to a text, as ` SWITCH.LINK` or ` SWITCH+VALUE.LINK`. It fails for want of memory alone, and the text is
+/// Adds a passage through a switch to a text, as ` SWITCH.LINK` or ` SWITCH+VALUE.LINK`. It fails only when out of memory, and the text is
 /// then as it was.
 pub fn push_hop(out: &mut Vec<u8>, plan: &Plan, hop: &Hop) -> Result<(), Memory>
     ensures ok { OnOk result (out.new.items ≡ out.old.items ++ hop_text plan.now hop.now) }
@@ -35,7 +35,7 @@ fn push_hops(out: &mut Vec<u8>, plan: &Plan, hops: &[Hop]) -> Result<(), Memory>
     Ok(())
 }
 
-/// Adds a way of a virtual link to a text: `ab` from its end a to its end b, or `ba` back. It fails for want of memory alone, and the text
+/// Adds a way of a virtual link to a text: `ab` from its end a to its end b, or `ba` back. It fails only when out of memory, and the text
 /// is then as it was.
 pub fn push_way(out: &mut Vec<u8>, from_a: bool) -> Result<(), Memory>
     ensures ok { OnOk result (out.new.items ≡ out.old.items ++ way_text from_a) }
@@ -61,7 +61,7 @@ fn push_start(out: &mut Vec<u8>, plan: &Plan, fault: &PathFault) -> Result<(), M
     push_port(out, plan, fault.start)
 }
 
-/// Adds the place where the fault of a path shows to a text. It fails for want of memory alone, and the text is then as it was.
+/// Adds the place where the fault of a path shows to a text. It fails only when out of memory, and the text is then as it was.
 pub fn push_last(out: &mut Vec<u8>, plan: &Plan, fault: &PathFault) -> Result<(), Memory>
     ensures ok { OnOk result (out.new.items ≡ out.old.items ++ last_text plan.now fault.now) }
     ensures err { OnErr result (out.new.items ≡ out.old.items) }

@@ -7,7 +7,7 @@ use vc_packets::Memory;
 use vc_reader::{Path, ReadRefused, Step};
 use vc_waits::push_texts;
 
-/// Adds a step of a path to a text: `/`, and the field or the index. It fails for want of memory alone, and the text is then as it was.
+/// Adds a step of a path to a text: `/`, and the field or the index. It fails only when out of memory, and the text is then as it was.
 pub fn push_step(out: &mut Vec<u8>, step: Step) -> Result<(), Memory>
     ensures ok { OnOk result (out.new.items ≡ out.old.items ++ step_text step) }
     ensures err { OnErr result (out.new.items ≡ out.old.items) }
@@ -34,7 +34,7 @@ fn push_steps(out: &mut Vec<u8>, path: &Path) -> Result<(), Memory>
     Ok(())
 }
 
-/// A text, and behind it where the fault is.
+/// A text, and after it where the fault is.
 fn push_refused(out: &mut Vec<u8>, text: &[u8], path: &Path) -> Result<(), Memory>
     ensures { OnOk result (out.new.items ≡ out.old.items ++ (text.now ++ steps_text path.now)) }
 {

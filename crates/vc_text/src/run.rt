@@ -35,7 +35,7 @@ pub struct StepReport {
     pub close: Close,
 }
 
-/// What the channels of a network are and have done, in order. It fails for want of memory alone.
+/// What the channels of a network are and have done, in order. It fails only when out of memory.
 pub fn views(alloc: Global, network: &Network) -> Result<Vec<ChannelView<'_>>, Memory>
     ensures { (p : Plan) → IsNetworkOf p (state_of network.now) →
         IfOk result (λ views. AreViews p (shown (state_of network.now)) views.items) }

@@ -199,7 +199,7 @@ impl Simulation {
     }
 
     /// Where one actor alone is awake, its steps without a communication, as long as each is known to be its only move: whoever keeps none of
-    /// the events need not be told of each.
+    /// the events need not be handed each.
     #[inline(always)]
     fn make_steps<K: EventSink>(&mut self, events: &K, limit: u64, progress: &mut Progress)
         requires { progress.old.made ≤ limit }

@@ -10,6 +10,6 @@ pub struct StepOptions {
     pub schedule: Schedule,
     /// Whether all processes run side by side on one node.
     pub is_together: bool,
-    /// Whether it is written, behind the traffic, who waits for what and where the packets are.
+    /// Whether it is written, after the traffic, who waits for what and where the packets are.
     pub is_why: bool,
 }

@@ -7,6 +7,6 @@ pub struct ThreadOptions {
     pub turns: u64,
     /// The seed of the words that random headers are made of.
     pub seed: u32,
-    /// Whether it is written, behind the traffic, who waits for what and where the packets are.
+    /// Whether it is written, after the traffic, who waits for what and where the packets are.
     pub is_why: bool,
 }

@@ -21,7 +21,7 @@ use vc_plan::Accepted;
 use vc_threads::Meter;
 
 /// Runs an accepted network event by event, until no event is enabled or there are `limit` events, and keeps none: its memory does not
-/// grow with their number. The answer is the network after it, and how the run ended. It fails for want of memory alone.
+/// grow with their number. The answer is the network after it, and how the run ended. It fails only when out of memory.
 pub fn run_unlogged(
     alloc: Global,
     accepted: &Accepted,

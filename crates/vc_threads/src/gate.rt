@@ -39,7 +39,7 @@ impl Model for EndGate {
 }
 
 impl EndGate {
-    /// The gate of a network with so many nodes: its first actors. It is open until [`Gate::ended`] was told of each, and never closes
+    /// The gate of a network with so many nodes: its first actors. It is open until [`Gate::ended`] was called for each, and never closes
     /// where they are more than 64.
     pub fn new(nodes: u8) -> EndGate
         ensures { result ≡ nodes }

@@ -18,7 +18,7 @@ use vc_plan::Accepted;
 /// Runs each node and each switch of an accepted plan in a thread of its own, for at most so many turns each, as long as the gate lets it.
 /// Each worker records its acts in a log of its own. The threads are joined: whatever they did, the acts of all by stamp, then actor, are a
 /// run of the network, and each log holds those of its actor. The network that is reported is put together from the actors, as their acts
-/// left them, and from the tokens that are left in the rings. Why each worker ended is told: one that ended by the gate may have been
+/// left them, and from the tokens that are left in the rings. Why each worker ended is reported: one that ended by the gate may have been
 /// refused its next turn. If one ran out of memory the run closes with the least of their actors, unless every process has ended. If a
 /// thread can't be started, the workers that run end at their next turns, and the call then fails. Else it fails only when out of memory.
 ///

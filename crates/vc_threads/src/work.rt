@@ -97,7 +97,7 @@ pub(crate) fn run_job<L: ActLog, G: Gate, P: Pause>(
 /// may and whose ring has one, or else does what [`Actor::turn`] does. The actor's number is the stream of the generator of its takes'
 /// words.
 ///
-/// No link stands twice among the ends that go out or among those that come in, and each that goes out is below 32. The clock at
+/// No link is twice among the ends that go out or among those that come in, and each that goes out is below 32. The clock at
 /// `u64::MAX` ends the worker before the act, and so does want of memory. One that ended by the gate may have been refused its next turn.
 pub fn worker<L: ActLog, G: Gate>(
     alloc: Global,

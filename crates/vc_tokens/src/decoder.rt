@@ -69,7 +69,7 @@ fn read_token(reading: &mut Assembler, packets: &mut Vec<Packet>, next: Token) -
     }
 }
 
-/// Reads tokens into packets, behind the bytes that have passed.
+/// Reads tokens into packets, after the bytes that have passed.
 fn read(alloc: Global, reading: &mut Assembler, next: &[Token]) -> Result<Vec<Packet>, Refused>
     requires { length reading.old.passed ≤ reading.old.limit }
     ensures limit { reading.new.limit ≡ reading.old.limit }
@@ -116,7 +116,7 @@ impl Decoder {
         })
     }
 
-    /// The packets that these tokens complete. The bytes behind the last mark are kept for the next feed.
+    /// The packets that these tokens complete. The bytes after the last mark are kept for the next feed.
     ///
     /// Once a token has broken the spelling, every later feed is refused for the same reason, with no packets. For want of memory
     /// the decoder is unchanged.

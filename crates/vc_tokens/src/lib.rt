@@ -2,8 +2,8 @@
 //! tokens is read back into packets ("Networks, Routers and Transputers", chapter 2).
 //!
 //! The layer above knows that [`encode`] and [`Encoder`] give a packet's spelling, and that a [`Decoder`], however the stream is
-//! cut into feeds, answers the packets that the stream spells and keeps the bytes behind them (`specs/Tokens`, `specs/Decoding`,
-//! `specs/Laws`). A link that takes its tokens one at a time uses an [`Assembler`], on which the decoder stands. The invariant of
+//! cut into feeds, answers the packets that the stream spells and keeps the bytes after them (`specs/Tokens`, `specs/Decoding`,
+//! `specs/Laws`). A link that takes its tokens one at a time uses an [`Assembler`], over which the decoder is built. The invariant of
 //! both is that no more bytes are kept than a packet may have, so that a token takes no memory, and a packet takes its own.
 #![tactic(auto)]
 

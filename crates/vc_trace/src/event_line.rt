@@ -137,7 +137,7 @@ fn act_of(names: &Names<'_>, words: &mut Words<'_>) -> Option<Act>
     }
 }
 
-/// The words of a line behind the word `event`, if it is a line that begins so.
+/// The words of a line after the word `event`, if it is a line that begins so.
 fn words_of(line: &[u8]) -> Option<&[u8]>
     ensures { (words : List ℕ) → codes "event" ++ words ++ newline ≡ line.now →
         option_map (λ found. found.now) result ≡ Some words }

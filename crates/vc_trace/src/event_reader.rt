@@ -21,7 +21,7 @@ pub(crate) struct EventReader<'a> {
 }
 
 impl<'a> EventReader<'a> {
-    /// The reader of a plan's events. It fails for want of memory alone.
+    /// The reader of a plan's events. It fails only when out of memory.
     pub(crate) fn new(alloc: Global, plan: &'a Plan) -> Result<EventReader<'a>, Memory>
         requires { IsAccepted plan.now }
         ensures { IfOk result (IsReaderOf plan.now) }
@@ -33,7 +33,7 @@ impl<'a> EventReader<'a> {
         })
     }
 
-    /// The event whose line this is, if it is that of one. It fails for want of memory alone.
+    /// The event whose line this is, if it is that of one. It fails only when out of memory.
     pub(crate) fn read(&mut self, line: &[u8]) -> Result<Option<Event>, Memory>
         ensures same { (p : Plan) → IsReaderOf p self.old → IsReaderOf p self.new }
         ensures reads { (p : Plan) → IsReaderOf p self.old →

@@ -57,7 +57,7 @@ fn put_word<W: Write>(piece: &mut Piece, writer: &mut W, word: &Word<'_>) -> Res
     }
 }
 
-/// A word behind a space.
+/// A word after a space.
 fn put_spaced<W: Write>(
     piece: &mut Piece,
     writer: &mut W,
@@ -72,7 +72,7 @@ fn put_spaced<W: Write>(
     put_word(piece, writer, word)
 }
 
-/// Words, each behind a space.
+/// Words, each after a space.
 fn put_words<W: Write>(
     piece: &mut Piece,
     writer: &mut W,
@@ -89,7 +89,7 @@ fn put_words<W: Write>(
     Ok(())
 }
 
-/// The word for a move of a site on a channel, the site and the channel, each behind a space.
+/// The word for a move of a site on a channel, the site and the channel, each after a space.
 fn put_site<W: Write>(
     piece: &mut Piece,
     writer: &mut W,
@@ -107,7 +107,7 @@ fn put_site<W: Write>(
     put_words(piece, writer, &words)
 }
 
-/// The words of a move of a process, each behind a space.
+/// The words of a move of a process, each after a space.
 fn put_move<W: Write>(
     piece: &mut Piece,
     writer: &mut W,
@@ -150,7 +150,7 @@ fn put_move<W: Write>(
     }
 }
 
-/// The word `proc` and those of a move of a process, each behind a space.
+/// The word `proc` and those of a move of a process, each after a space.
 fn put_proc<W: Write>(
     piece: &mut Piece,
     writer: &mut W,
@@ -168,7 +168,7 @@ fn put_proc<W: Write>(
     put_move(piece, writer, plan, made)
 }
 
-/// The words of an act, each behind a space.
+/// The words of an act, each after a space.
 fn put_act<W: Write>(
     piece: &mut Piece,
     writer: &mut W,

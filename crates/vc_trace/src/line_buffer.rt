@@ -26,7 +26,7 @@ impl LineBuffer {
         }
     }
 
-    /// Whether a line is that of an event. It fails for want of memory alone.
+    /// Whether a line is that of an event. It fails only when out of memory.
     pub(crate) fn is_line_of(
         &mut self,
         plan: &Plan,

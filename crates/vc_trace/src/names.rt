@@ -44,7 +44,7 @@ pub(crate) struct Names<'a> {
 }
 
 impl<'a> Names<'a> {
-    /// Those of a plan. It fails for want of memory alone.
+    /// Those of a plan. It fails only when out of memory.
     pub(crate) fn new(alloc: Global, plan: &'a Plan) -> Result<Names<'a>, Memory>
         requires { IsAccepted plan.now }
         ensures { IfOk result (λ names. IsNamed plan.now → AreNamesOf plan.now names) }

@@ -3,7 +3,7 @@
 /// A word of the text of an event.
 #[derive(Clone, Copy, Drop)]
 pub(crate) enum Word<'a> {
-    /// Bytes as they stand.
+    /// Bytes as they are.
     Text(&'a [u8]),
     /// A number in decimal.
     Number(u64),

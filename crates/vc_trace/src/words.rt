@@ -3,13 +3,13 @@ ghost use Rattle.std.specs.Prelude.{◌≡◌, ◌≢◌, ◌<◌, ◌≤◌, �
 ghost use Rattle.vc_trace.specs.EventText.{spaced};
 ghost use Rattle.vc_trace.specs.Private.Words.{IsWord};
 
-/// The rest of a line, word by word. A space stands in front of each word.
+/// The rest of a line, word by word. A space is in front of each word.
 #[derive(Clone, Copy, Drop)]
 pub(crate) struct Words<'a> {
     pub rest: &'a [u8],
 }
 
-/// How many bytes stand in front of the first space.
+/// How many bytes are in front of the first space.
 fn word_len(text: &[u8]) -> usize
     ensures within { result ≤ length text.now }
     ensures before { (k : ℕ) → k < result → slice_index text.now k ≢ 32 }

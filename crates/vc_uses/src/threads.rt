@@ -14,7 +14,7 @@ use vc_threads::{
     run_until_ended_unlogged,
 };
 
-/// Runs a network in threads until every process has ended, or so many turns, and tells how many outputs on a channel are not finished
+/// Runs a network in threads until every process has ended, or so many turns, and reports how many outputs on a channel are not finished
 /// then: none or one, whatever the threads did.
 pub fn left_by_threads<R: Threads + Wait + Sync>(
     rt: &R,
@@ -71,7 +71,7 @@ impl Gate for OpenGate {
     fn ended(&self, _actor: u8) {}
 }
 
-/// Runs a network in threads behind an open gate, for so many turns each, and tells why each worker ended: not by its gate.
+/// Runs a network in threads with an open gate, for so many turns each, and reports why each worker ended: not by its gate.
 pub fn stops_behind_an_open_gate<R: Threads + Wait + Sync>(
     rt: &R,
     alloc: Global,

@@ -24,7 +24,7 @@ pub fn under_way(network: &Network, chan: u16) -> u64
     network.offered(chan).len() as u64 - network.finished(chan)
 }
 
-/// The message that was offered on a channel and has not been taken, if there is one: it stands behind those that have.
+/// The message that was offered on a channel and has not been taken, if there is one: it comes after those that have been.
 pub fn to_come(network: &Network, chan: u16) -> Option<&[u8]>
     ensures { (p : Plan) (events : List Event) →
         Replays p events (state_of network.now) → chan < length p.channels →

@@ -37,7 +37,7 @@ impl Hints {
         self.blocks[usize::from(block) % PLACES] = place;
     }
 
-    /// Where each of these outputs stands.
+    /// Where each of these outputs is.
     pub(crate) fn of_outputs(outputs: &[Output]) -> Hints
         ensures chans { AreHinted (λ x. x.chan) outputs.now result.chans }
         ensures blocks { AreHinted (λ x. x.block) outputs.now result.blocks }
@@ -49,7 +49,7 @@ impl Hints {
         hints
     }
 
-    /// Where each of these inputs stands.
+    /// Where each of these inputs is.
     pub(crate) fn of_inputs(inputs: &[Input]) -> Hints
         ensures chans { AreHinted (λ x. x.chan) inputs.now result.chans }
         ensures blocks { AreHinted (λ x. x.block) inputs.now result.blocks }

@@ -1,4 +1,4 @@
-//! Where the outputs and inputs of a node stand, by their channel or their block: each has a name of its own, and is looked for first
+//! Where the outputs and inputs of a node are, by their channel or their block: each has a name of its own, and is looked for first
 //! where a hint says.
 ghost use Rattle.std.specs.Prelude.{◌≡◌, ◌<◌, ◌==◌, length, slice_get, None, MatchOption, IfSome};
 ghost use Rattle.std.specs.List.{position};

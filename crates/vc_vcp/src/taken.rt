@@ -1,4 +1,4 @@
-//! What became of a packet that reached a node, as it is told to the node's process.
+//! What became of a packet that reached a node, as it is given to the node's process.
 ghost use Rattle.std.specs.Prelude.{◌≡◌};
 ghost use Rattle.vc_vcp.specs.VcpView.{taken_of};
 ghost use Rattle.vc_vcp.specs.Private.VcpView.{advance_told, arrival_told};

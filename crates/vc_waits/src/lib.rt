@@ -2,7 +2,7 @@
 //!
 //! The layer above knows of [`push_waits`] that the lines are those of the definitions (`specs/Waits`, `specs/Packets`): one for each part
 //! of a process that does not go on by itself, with its path in the network file (`specs/Paths`), and one for each packet of an output
-//! that is not finished, where it stands. [`words_are_so`]: what such a line says of a part of a process is so.
+//! that is not finished, where it is. [`words_are_so`]: what such a line says of a part of a process is so.
 #![tactic(auto)]
 
 mod laws;

@@ -13,7 +13,7 @@ use vc_core::{Network, Place};
 use vc_packets::Memory;
 use vc_plan::{Plan, Wire};
 
-/// Where the packet of each channel stands, in order. It fails for want of memory alone.
+/// Where the packet of each channel is, in order. It fails only when out of memory.
 pub fn places(alloc: Global, network: &Network) -> Result<Vec<Option<Place>>, Memory>
     ensures { (p : Plan) (events : List Event) → Reached p events (state_of network.now) →
         IfOk result (λ places. ArePlaces p (shown (state_of network.now)) places.items) }
@@ -25,7 +25,7 @@ pub fn places(alloc: Global, network: &Network) -> Result<Vec<Option<Place>>, Me
     Ok(places)
 }
 
-/// Adds to a text the two ports of a wire, from the one where the packet went in. It fails for want of memory alone, and the text is then
+/// Adds to a text the two ports of a wire, from the one where the packet went in. It fails only when out of memory, and the text is then
 /// as it was.
 pub fn push_ports(out: &mut Vec<u8>, plan: &Plan, wire: &Wire, from_one: bool) -> Result<(), Memory>
     ensures ok { OnOk result (out.new.items
@@ -35,7 +35,7 @@ pub fn push_ports(out: &mut Vec<u8>, plan: &Plan, wire: &Wire, from_one: bool) -
     push_behind(out, b"", plan, wire, from_one)
 }
 
-/// Adds a text, and behind it the ports of a wire.
+/// Adds a text, and after it the ports of a wire.
 #[tactic(auto, using(std::proofs::Common::append_assoc))]
 fn push_behind(
     out: &mut Vec<u8>,
@@ -79,7 +79,7 @@ fn push_wire(out: &mut Vec<u8>, plan: &Plan, number: u16, from_one: bool) -> Res
     }
 }
 
-/// Adds to a text where a packet is. It fails for want of memory alone, and the text is then as it was.
+/// Adds to a text where a packet is. It fails only when out of memory, and the text is then as it was.
 pub fn push_place(out: &mut Vec<u8>, plan: &Plan, place: Place) -> Result<(), Memory>
     ensures ok { OnOk result (out.new.items ≡ out.old.items ++ place_text plan.now place) }
     ensures err { OnErr result (out.new.items ≡ out.old.items) }
@@ -140,7 +140,7 @@ fn waits_text(alloc: Global, plan: &Plan, network: &Network) -> Result<Vec<u8>, 
 
 /// Adds to a text a line for each part of a process of the plan's network that does not go on by itself, and then one for each packet of
 /// an output that is not finished. A line of a process says what it waits for, or how it has stopped, and a line of a packet where it is.
-/// The nodes, the parts of a process and the channels come in the file's order. It fails for want of memory alone, and the text is then
+/// The nodes, the parts of a process and the channels come in the file's order. It fails only when out of memory, and the text is then
 /// as it was.
 pub fn push_waits(
     alloc: Global,

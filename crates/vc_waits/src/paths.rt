@@ -39,7 +39,7 @@ fn push_path(alloc: Global, found: &mut Items<Bytes>, path: &[u8]) -> Result<(),
     Ok(())
 }
 
-/// A path, and more behind it.
+/// A path, and more after it.
 fn longer(alloc: Global, path: &[u8], more: &[u8]) -> Result<Vec<u8>, Memory>
     ensures { IfOk result (λ made. made.items ≡ path.now ++ more.now) }
 {
@@ -49,7 +49,7 @@ fn longer(alloc: Global, path: &[u8], more: &[u8]) -> Result<Vec<u8>, Memory>
     Ok(made)
 }
 
-/// A path, an index, and more behind it.
+/// A path, an index, and more after it.
 #[tactic(auto, using(std::proofs::Common::append_assoc))]
 fn place(alloc: Global, path: &[u8], index: usize, more: &[u8]) -> Result<Vec<u8>, Memory>
     ensures { IfOk result (λ made. made.items ≡ path.now ++ decimal index ++ more.now) }
@@ -61,7 +61,7 @@ fn place(alloc: Global, path: &[u8], index: usize, more: &[u8]) -> Result<Vec<u8
     Ok(made)
 }
 
-/// Adds the paths of a body, which stands at this step from its process.
+/// Adds the paths of a body, which is at this step from its process.
 #[cycle(paths)]
 fn push_body(
     alloc: Global,
@@ -76,7 +76,7 @@ fn push_body(
     push_paths(alloc, found, path.as_slice(), body)
 }
 
-/// Adds the paths of the parts of a SEQ or a PAR, which stand in a list at this step from it.
+/// Adds the paths of the parts of a SEQ or a PAR, which are in a list at this step from it.
 #[cycle(paths)]
 fn push_parts(
     alloc: Global,

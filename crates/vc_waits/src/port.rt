@@ -7,7 +7,7 @@ use itoa::Buffer;
 use vc_packets::Memory;
 use vc_plan::{Plan, Port};
 
-/// Adds a port to a text, as `PLACE.LINK`. It fails for want of memory alone, and the text is then as it was.
+/// Adds a port to a text, as `PLACE.LINK`. It fails only when out of memory, and the text is then as it was.
 pub fn push_port(out: &mut Vec<u8>, plan: &Plan, port: Port) -> Result<(), Memory>
     ensures ok { OnOk result (out.new.items ≡ out.old.items ++ port_text plan.now port) }
     ensures err { OnErr result (out.new.items ≡ out.old.items) }

@@ -215,7 +215,7 @@ fn push_all(
     Ok(())
 }
 
-/// The paths of the n-th node's process and of those within it, in order of site. It fails for want of memory alone.
+/// The paths of the n-th node's process and of those within it, in order of site. It fails only when out of memory.
 #[tactic(auto, using(std::proofs::Common::append_assoc))]
 pub fn process_paths(alloc: Global, n: usize, node: &NodePlan) -> Result<Items<Bytes>, Memory>
     ensures { IfOk result (λ found. found ≡ paths_of node.now.process (process_path n)) }

@@ -1,4 +1,4 @@
-//! What `clap` is told of the command line.
+//! What `clap` is given of the command line.
 ghost use Rattle.std.specs.Prelude.{◌≡◌, false, IfOk};
 ghost use Rattle.clap.specs.Words.{app_of, new_app, with_rule};
 ghost use Rattle.clap.specs.Walk.{rule_of};

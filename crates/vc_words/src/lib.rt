@@ -1,8 +1,8 @@
 //! The program `vcnet` without its streams: from the words of the command line to what is written and the status.
 //!
 //! What the words ask for is what `clap` finds in them (`specs/CommandLine`), and what is written and the status are those of the
-//! check, of the run of so many events, or of the run in threads that they ask for, or of a line that is told and reads nothing
-//! (`specs/Program`, `specs/Status`), over any reader and any writer that tell their bytes.
+//! check, of the run of so many events, or of the run in threads that they ask for, or of a line that is reported and reads nothing
+//! (`specs/Program`, `specs/Status`), over any reader and any writer whose bytes are known.
 #![tactic(auto)]
 
 mod account;

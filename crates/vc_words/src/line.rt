@@ -8,7 +8,7 @@ use vc_text::{StepOptions, ThreadOptions};
 pub enum Line {
     /// To check the network, and to print how large it is.
     Check,
-    /// To tell what is wrong in the network file and where, or what the network has.
+    /// To write what is wrong in the network file and where, or what the network has.
     Explain,
     /// To show a cycle of dependencies along which packets of the network might wait for one another, or that there is none.
     Deadlock,
