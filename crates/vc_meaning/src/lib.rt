@@ -2,7 +2,7 @@
 //! event keeps that meaning, or is one move of the program. Definitions and laws, with no premise on the network's wires.
 //!
 //! A message has passed once both its output and its input, or a guard, have begun. Where one of the two has begun alone, the program's
-//! process stands before it. Where both have, it has the message, or the end of its output, before the network brings it
+//! process is before it. Where both have, it has the message, or the end of its output, before the network brings it
 //! (`specs/Meaning`). So the network refines the program in the sense of Abadi and Lamport (1991): whatever it shows is a state that a
 //! schedule of the program leads to.
 #![tactic(auto)]

@@ -57,8 +57,8 @@ fn length_before(plan: &Plan, vlink: &Vlink, lengths: &[VlinkLength]) -> Option<
     }
 }
 
-/// The lengths of a virtual link behind those with these lengths.
-fn length_behind(
+/// The lengths of a virtual link after those with these lengths.
+fn length_after(
     alloc: Global,
     net: &SearchedPlan<'_>,
     known: &mut Vec<Summary>,
@@ -79,8 +79,8 @@ fn length_behind(
     }
 }
 
-/// Tells of each virtual link of an accepted plan, in order, how many switches its packets pass at least and at most, each way. It
-/// fails for want of memory alone.
+/// Reports for each virtual link of an accepted plan, in order, how many switches its packets pass at least and at most, each way. It
+/// fails only when out of memory.
 pub fn vlink_lengths(alloc: Global, accepted: &Accepted) -> Result<Vec<VlinkLength>, Memory>
     ensures { IfOk result (λ lengths.
         AllZip (IsVlinkLength accepted.now) accepted.now.vlinks lengths.items) }
@@ -90,7 +90,7 @@ pub fn vlink_lengths(alloc: Global, accepted: &Accepted) -> Result<Vec<VlinkLeng
     let mut known = Vec::new(alloc);
     let mut lengths = Vec::new(alloc);
     for vlink in plan.vlinks.as_slice() {
-        let length = length_behind(alloc, &net, &mut known, vlink, &lengths)?;
+        let length = length_after(alloc, &net, &mut known, vlink, &lengths)?;
         lengths.push(length)?;
     }
     Ok(lengths)

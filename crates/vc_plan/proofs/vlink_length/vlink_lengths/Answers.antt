@@ -14,11 +14,11 @@ loop-vlink-init c = record {
   lengths = rw c.new-lengths.ensures.items tt;
 }
 
-pub length_behind-requires-clause-known : goal.length_behind-requires-clause-known
-length_behind-requires-clause-known c = rw (c.in_ok-net.ensures ∙ c.plan-plan.ensures.plan) c.loop-vlink.invariant.known
+pub length_after-requires-clause-known : goal.length_after-requires-clause-known
+length_after-requires-clause-known c = rw (c.in_ok-net.ensures ∙ c.plan-plan.ensures.plan) c.loop-vlink.invariant.known
 
-pub length_behind-requires-clause-before : goal.length_behind-requires-clause-before
-length_behind-requires-clause-before c =
+pub length_after-requires-clause-before : goal.length_after-requires-clause-before
+length_after-requires-clause-before c =
     let acc = c.args.accepted.now in
     let ls = c.loop-vlink.lengths.items in
     subst (λ (p : Plan). AllZip (IsVlinkLength p) (take (length c.deref.result.now) p.vlinks) c.deref.result.now) (sym (c.in_ok-net.ensures ∙ c.plan-plan.ensures.plan))
