@@ -1,5 +1,5 @@
 //! Virtual links whose packets go the same ways.
-ghost use Rattle.std.specs.Prelude.{◌≡◌, ℕ, true, Some, slice_get};
+ghost use Rattle.std.specs.Prelude.{◌≡◌, ℕ, Decides, Some, slice_get};
 ghost use Rattle.vc_labels.specs.Interval.{action_for};
 ghost use Rattle.vc_plan.specs.declared.switch_plan.SwitchPlan.{SwitchPlan};
 ghost use Rattle.vc_plan.specs.Alike.{AreAlike, AreLikeEnds, AreLikeLinks, AreSame};
@@ -9,30 +9,29 @@ use crate::switch_plan::SwitchPlan;
 use crate::vlink::{End, Vlink};
 use vc_labels::{Action, Row, find_action};
 
+fn are_equal(a: Action, b: Action) -> bool
+    ensures { Decides result (a ≡ b) }
+{
+    a == b
+}
+
 /// Whether a table has one action for both headers, or none for either.
 fn has_one_action(rows: &[Row], x: u16, y: u16) -> bool
-    ensures { result ≡ true → action_for rows.now x ≡ action_for rows.now y }
+    ensures { Decides result (action_for rows.now x ≡ action_for rows.now y) }
 {
-    match (find_action(rows, x), find_action(rows, y)) {
-        (None, None) => true,
-        (Some(Action::Portal), Some(Action::Portal)) => true,
-        (
-            Some(Action::Out { first, last }),
-            Some(
-                Action::Out {
-                    first: other_first,
-                    last: other_last,
-                },
-            ),
-        ) => first == other_first && last == other_last,
-        _ => false,
+    match find_action(rows, x) {
+        None => find_action(rows, y).is_none(),
+        Some(one) => match find_action(rows, y) {
+            None => false,
+            Some(other) => are_equal(one, other),
+        },
     }
 }
 
 /// Whether each table has.
 fn have_one_action(switches: &[SwitchPlan], x: u16, y: u16) -> bool
-    ensures { result ≡ true → (n : ℕ) (plan : SwitchPlan) → slice_get switches.now n ≡ Some plan →
-        action_for plan.rows x ≡ action_for plan.rows y }
+    ensures { Decides result ((n : ℕ) (plan : SwitchPlan) → slice_get switches.now n ≡ Some plan →
+        action_for plan.rows x ≡ action_for plan.rows y) }
 {
     for plan in switches {
         if !has_one_action(plan.rows.as_slice(), x, y) {
@@ -44,24 +43,29 @@ fn have_one_action(switches: &[SwitchPlan], x: u16, y: u16) -> bool
 
 /// Whether no table tells two headers apart.
 fn are_same(net: &Plan, x: u16, y: u16) -> bool
-    ensures { result ≡ true → AreSame net.now x y }
+    ensures { Decides result (AreSame net.now x y) }
 {
-    x == y || have_one_action(net.switches.as_slice(), x, y)
+    if x == y {
+        return true;
+    }
+    have_one_action(net.switches.as_slice(), x, y)
 }
 
 /// Whether none does, header by header.
 fn are_alike(net: &Plan, one: &[u16], other: &[u16]) -> bool
-    ensures { result ≡ true → AreAlike net.now one.now other.now }
+    ensures { Decides result (AreAlike net.now one.now other.now) }
 {
-    match (one, other) {
-        ([], []) => true,
-        ([x, one @ ..], [y, other @ ..]) => are_same(net, *x, *y) && are_alike(net, one, other),
-        _ => false,
+    match one {
+        [] => other.is_empty(),
+        [x, one @ ..] => match other {
+            [] => false,
+            [y, other @ ..] => are_same(net, *x, *y) && are_alike(net, one, other),
+        },
     }
 }
 
 fn are_like_ends(net: &Plan, one: &End, other: &End) -> bool
-    ensures { result ≡ true → AreLikeEnds net.now one.now other.now }
+    ensures { Decides result (AreLikeEnds net.now one.now other.now) }
 {
     one.node == other.node
         && one.link == other.link
@@ -71,7 +75,7 @@ fn are_like_ends(net: &Plan, one: &End, other: &End) -> bool
 /// Whether the packets of two virtual links go the same ways: each end of the one sends by the link by which that of the other does, with
 /// headers that no table tells from the other's.
 pub fn are_like_links(net: &Plan, one: &Vlink, other: &Vlink) -> bool
-    ensures { result ≡ true → AreLikeLinks net.now one.now other.now }
+    ensures { Decides result (AreLikeLinks net.now one.now other.now) }
 {
     are_like_ends(net, &one.a, &other.a) && are_like_ends(net, &one.b, &other.b)
 }
