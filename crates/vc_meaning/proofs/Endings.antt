@@ -91,7 +91,7 @@ module _ (p : Plan) (rule : Waiting) (limit : ℕ) (acc : IsAccepted p) (ranks :
       (λ t late. always (λ b. (u : ℕ) → Goal k t b u) (λ b alone. always (λ u. Goal k t b u) (λ u tokens. one_step k t b u (record { moves = moves; late = late; alone = alone; tokens = tokens })))))
 
 pub ends_anywhere : EndsAnywhere
-ends_anywhere p rule limit acc ranks few =
+ends_anywhere p limit acc ranks few rule =
     let o = begins (network_of p) (begin_of p) in
     let c : Come p rule limit acc ranks few [] o = record { happen = record { states = λ n. refl; ways = λ w. refl }; schedule = []; state = program_of p; reaches = no_more; means = opening_means p acc } in
     let r = bound_at p rule limit acc ranks few [] o c in

@@ -16,7 +16,10 @@ use Rattle.vc_switch.specs.Waiting.{Waiting}
 pub data Ends (p : Plan) (waiting : Waiting) : NetworkState → Type 0 where
   ends : {x : NetworkState} → ((e : ActBy Act) (y : NetworkState) → Happens (network_of p) waiting does x e y → Ends p waiting y) → Ends p waiting x
 
--- so it is from the opening state on of an accepted network whose ports have ranks, under either waiting rule, if no schedule of its program
--- has more than so many moves
+-- so it is from the opening state of the plan's network on, under either waiting rule
+abbrev pub AlwaysEnds : Plan → Type 0
+AlwaysEnds p = (waiting : Waiting) → Ends p waiting (begins (network_of p) (begin_of p))
+
+-- so it is with an accepted network whose ports have ranks, if no schedule of its program has more than so many moves
 abbrev pub EndsAnywhere : Type 0
-EndsAnywhere = (p : Plan) (waiting : Waiting) (n : ℕ) → IsAccepted p → HasRanks p → EndsWithin p n → Ends p waiting (begins (network_of p) (begin_of p))
+EndsAnywhere = (p : Plan) (n : ℕ) → IsAccepted p → HasRanks p → EndsWithin p n → AlwaysEnds p
