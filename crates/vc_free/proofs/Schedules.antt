@@ -11,7 +11,7 @@ use Rattle.vc_free.proofs.Fins.{none_here, none_tail}
 use Rattle.vc_free.proofs.PlanChannels.{is_declared}
 use Rattle.vc_free.specs.NeverStuck.{ComesTo, GetsStuck, NeverStuck, IsScheduled, ListsAreSchedules}
 use Rattle.vc_free.specs.Private.Delays.{after_output}
-use Rattle.vc_free.specs.Rest.{TakesFrom}
+use Rattle.vc_free.specs.Rest.{NothingGoesOn, TakesFrom}
 use Rattle.vc_machine.proofs.Basics.{put-same, put-other, every_put}
 use Rattle.vc_machine.specs.Rendezvous as rendezvous
 use Rattle.vc_machine.specs.Rendezvous.{View, Does, DoesAll, nothing_yet}
@@ -461,17 +461,14 @@ takes_from (Some g) j c = refl
 before_offer : {s t u : State} {i j c : ℕ} {x y : Datum} (k : Option ℕ) (m : List ℕ) → Offering s i c x t → StepsTo t j (meeting k c m) (In c y ∷ []) u → UsesLawfully s.rest → Contains (own s.rest s.store) (partner j k c)
 before_offer {s} {u = u} {j = j} {c = c} {y = y} k m st st2 l = let q = delay (after_output (λ e. cc)) st st2 (lawful s.rest l) in took_own {s = s} {t = state q.rest q.store} k c m q.first
 
-pub never_by_lists : (p : Plan) → IsAccepted p → program.NeverStuck p → NeverStuck p
-never_by_lists p acc never hs h = never r.moves r.state r.reaches (no_move, not_ended)
+pub is_quiet : (p : Plan) → IsAccepted p → (stands : ℕ → State) (shown : ℕ → View) (r : IsScheduled p stands shown) → NothingGoesOn (length p.nodes) stands (λ c. (shown c).stopped) → IsQuiet p r.state
+is_quiet p acc stands shown r rest = no_move
   where
-    r : IsScheduled p h.stands h.shown
-    r = scheduled p acc h.stands h.shown hs h.comes
-
-    offered : (n i c : ℕ) (x : Datum) (a : State) → n < length p.nodes → Offering (r.state.part n) i c x a → Contains (own (h.stands n).rest (h.stands n).store) (move.Offer i c)
+    offered : (n i c : ℕ) (x : Datum) (a : State) → n < length p.nodes → Offering (r.state.part n) i c x a → Contains (own (stands n).rest (stands n).store) (move.Offer i c)
     offered n i c x a few st = subst (λ (z : State). Contains (own z.rest z.store) (move.Offer i c)) (r.parts n few) (offer_own st)
 
     taken : (n i m j c : ℕ) (k : Option ℕ) (x y : Datum) (a b : State) → n < length p.nodes → m < length p.nodes → Offering (r.state.part n) i c x a → StepsTo (put r.state.part n a m) j (meeting k c (message x)) (In c y ∷ []) b →
-        Contains (own (h.stands m).rest (h.stands m).store) (partner j k c)
+        Contains (own (stands m).rest (stands m).store) (partner j k c)
     taken n i m j c k x y a b few few2 st st2 = subst (λ (z : State). Contains (own z.rest z.store) (partner j k c)) (r.parts m few2) (elim (cases_eq m n) [
       | inl e ↦ subst (λ z. Contains (own (r.state.part z).rest (r.state.part z).store) (partner j k c)) (sym e)
           (before_offer k (message x) st (subst (λ z. StepsTo z j (meeting k c (message x)) (In c y ∷ []) b) (ap (put r.state.part n a) e ∙ put-same r.state.part n a) st2) ((reached p r.moves r.state acc r.reaches).uses n few))
@@ -479,12 +476,18 @@ never_by_lists p acc never hs h = never r.moves r.state r.reaches (no_move, not_
     ])
 
     no_move : IsQuiet p r.state
-    no_move m t (goes n i u few st) = h.rest.alone n (move.Quiet i) few (subst (λ (z : State). Contains (own z.rest z.store) (move.Quiet i)) (r.parts n few) (quiet_own st)) tt
-    no_move m t (stops n i c u few st) = h.rest.alone n (move.Stopch i c) few (subst (λ (z : State). Contains (own z.rest z.store) (move.Stopch i c)) (r.parts n few) (stop_own st)) tt
+    no_move m t (goes n i u few st) = rest.alone n (move.Quiet i) few (subst (λ (z : State). Contains (own z.rest z.store) (move.Quiet i)) (r.parts n few) (quiet_own st)) tt
+    no_move m t (stops n i c u few st) = rest.alone n (move.Stopch i c) few (subst (λ (z : State). Contains (own z.rest z.store) (move.Stopch i c)) (r.parts n few) (stop_own st)) tt
     no_move mv t (passes c n i m j k x y a b d few few2 free one two three) =
         let declared = is_declared p r.moves r.state acc r.reaches n c few (offer_on one) in
-        let is_stopped = h.rest.met n m i c (partner j k c) few few2 (offered n i c x a few one) (taken n i m j c k x y a b few few2 one two) (takes_from k j c) in
+        let is_stopped = rest.met n m i c (partner j k c) few few2 (offered n i c x a few one) (taken n i m j c k x y a b few few2 one two) (takes_from k j c) in
         clash is_stopped (sym (r.stopped c declared) ∙ free)
+
+pub never_by_lists : (p : Plan) → IsAccepted p → program.NeverStuck p → NeverStuck p
+never_by_lists p acc never hs h = never r.moves r.state r.reaches (is_quiet p acc h.stands h.shown r h.rest, not_ended)
+  where
+    r : IsScheduled p h.stands h.shown
+    r = scheduled p acc h.stands h.shown hs h.comes
 
     not_ended : HasEnded p r.state → ⊥
     not_ended ended = let w = h.waits in w.2 (ap (λ (z : State). z.rest) (sym (r.parts w.0 w.1)) ∙ ended w.0 w.1)

@@ -1,5 +1,5 @@
 -- A program that cannot get stuck, side by side on one transputer, gets stuck on no free placement.
-use Rattle.std.specs.Prelude.{◌≡◌, ◌≢◌, ℕ, ◌≤◌, ◌<◌, List, [], length}
+use Rattle.std.specs.Prelude.{◌≡◌, ◌≢◌, ◌↔◌, ℕ, ◌≤◌, ◌<◌, List, [], length}
 use Rattle.vc_accepted.specs.Begin.{begin_of}
 use Rattle.vc_accepted.specs.NetworkOf.{network_of}
 use Rattle.vc_accepted.specs.OneList.{by, on}
@@ -9,7 +9,8 @@ use Rattle.vc_free.specs.Rest.{NothingGoesOn, StepsAtOnce}
 use Rattle.vc_machine.specs.Rendezvous.{View, DoesAll, nothing_yet}
 use Rattle.vc_network.specs.Actors.{Network, ActBy}
 use Rattle.vc_network.specs.EnabledEvents.{IsEnabled}
-use Rattle.vc_network.specs.Network.{Act, Actor, begins, HappenAll}
+use Rattle.vc_network.specs.Network.{Act, Node, Actor, IsNode, begins, HappenAll}
+use Rattle.vc_network.specs.Views.{view}
 use Rattle.vc_occam.specs.Remains.{Done}
 use Rattle.vc_occam.specs.States.{State}
 use Rattle.vc_placement.specs.Linearization.{Atomic, all_comms, AreFaithful}
@@ -18,7 +19,7 @@ use Rattle.vc_plan.specs.Accepted.{IsAccepted}
 use Rattle.vc_plan.specs.Dependencies.{HasRanks}
 use Rattle.vc_plan.specs.declared.plan.Plan.{Plan}
 use Rattle.vc_program.specs.Program as program
-use Rattle.vc_program.specs.Program.{Program, Reaches}
+use Rattle.vc_program.specs.Program.{Program, Reaches, IsQuiet}
 use Rattle.vc_switch.specs.Waiting.{Waiting}
 use Rattle.vc_tokens.specs.Tokens.{Token}
 
@@ -75,3 +76,20 @@ NeverStops p =
 -- so it is of an accepted placement whose ports have ranks where no schedule of the program of an accepted plan gets stuck
 abbrev pub FreePlacementsNeverStop : Type 0
 FreePlacementsNeverStop = (p q : Plan) → IsAccepted p → program.NeverStuck p → IsOtherPlacement p q → IsAccepted q → HasRanks q → NeverStops q
+
+-- A schedule of the program leads to a state in which no move can be made. The messages that passed by it are those that are taken on the
+-- network, the same channels are stopped, and the same processes have ended.
+pub record IsOutcome (p : Plan) (s : Network (Actor Process) Token) : Type 0 where
+  pub moves : List program.Move
+  pub state : Program
+  pub reaches : Reaches p moves state
+  pub quiet : IsQuiet p state
+  pub passed : (c : ℕ) → c < length p.channels → state.passed c ≡ (view (network_of p) s c).taken
+  pub stopped : (c : ℕ) → c < length p.channels → state.stopped c ≡ (view (network_of p) s c).stopped
+  pub ended : (n : ℕ) → n < length p.nodes → (a : Node Process) → s.state n ≡ IsNode a → ((state.part n).rest ≡ Done) ↔ (a.process.state.rest ≡ Done)
+
+-- so it is where no event can happen any more on the network of an accepted plan whose ports have ranks, under either waiting rule
+abbrev pub QuietNetworksAreOutcomes : Type 0
+QuietNetworksAreOutcomes =
+    (p : Plan) (waiting : Waiting) (es : List (ActBy Act)) (s : Network (Actor Process) Token) → IsAccepted p → HasRanks p
+    → HappenAll (network_of p) waiting does (begins (network_of p) (begin_of p)) es s → IsAtRest p waiting s → IsOutcome p s

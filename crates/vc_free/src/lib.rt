@@ -13,6 +13,7 @@ ghost use Rattle.vc_free.specs.NeverStuck.{
   FreePlacementsNeverStop,
   ListsAreSchedules,
   NeverStuckAnywhere,
+  QuietNetworksAreOutcomes,
 };
 ghost use Rattle.vc_free.specs.Placements.{FreePlacementsDoTheSame};
 ghost use Rattle.vc_free.specs.Rest.{QuietNetworksAreQuiet};
@@ -74,4 +75,11 @@ pub fn lists_are_schedules()
 /// wherever a run has come: when no event can happen, all processes have ended.
 pub fn free_placements_never_stop()
     ensures { FreePlacementsNeverStop }
+{}
+
+/// Where no event can happen any more on an accepted plan's network, under either waiting rule, if its ports have ranks, a schedule of its
+/// program leads to a state in which no move can be made: the messages that passed by it are those that are taken on the network, and
+/// the same processes have ended. So whatever the order of its events, a free network comes to rest in an outcome of its program.
+pub fn a_quiet_network_is_an_outcome()
+    ensures { QuietNetworksAreOutcomes }
 {}

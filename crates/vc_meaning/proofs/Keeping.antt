@@ -1,5 +1,5 @@
 -- What an event does to what the network's state means.
-use Rattle.std.proofs.Common.{◌≡◌, ◌≢◌, ◌⊎◌, inl, inr, ℕ, suc, ◌+◌, ◌≤◌, ◌<◌, Bool, true, false, List, [], ◌∷◌, ◌++◌, length, slice_get, Option, Some, None, refl, sym, ap, subst, ◌∙◌, arith, length-append, eq-eqb, ne_eqb, if◌then◌else◌, ◌==◌}
+use Rattle.std.proofs.Common.{◌≡◌, ◌≢◌, ◌⊎◌, inl, inr, ℕ, suc, ◌+◌, ◌-◌, ◌≤◌, ◌<◌, Bool, true, false, List, [], ◌∷◌, ◌++◌, length, slice_get, Option, Some, None, refl, sym, ap, subst, ◌∙◌, arith, length-append, eq-eqb, ne_eqb, if◌then◌else◌, ◌==◌}
 use Rattle.std.proofs.lemmas.Bool.{cases_eq}
 use Rattle.std.proofs.lemmas.List.{length-map}
 use Rattle.std.specs.List.{Contains}
@@ -21,6 +21,7 @@ use Rattle.vc_meaning.proofs.Counting.{some_out, some_in, AheadByNumbers, by_num
 use Rattle.vc_meaning.proofs.Ends.{TwoNodes, two_nodes}
 use Rattle.vc_meaning.proofs.Known.{Course, at_rest, under_way, to_end, course, is_open, held, kept_of, ready_of, source_waits, sink_waits, no_source, no_sink}
 use Rattle.vc_meaning.proofs.Sequences.{IsMove, Kept, kept, ahead_beside, ahead_finish, ahead_append, ahead_kept, ahead_map, ahead_fewer, ahead_outs, ahead_ins, finish_first, message_first, alone_past, alone_append, alone_takes, alone_ends, alone_map, by_input, by_other, own_output, other_output}
+use Rattle.vc_meaning.proofs.Measures.{Stands, all_late, all_alone, all_late_same, all_alone_same, late_changes, alone_changes}
 use Rattle.vc_meaning.specs.Meaning.{IsOnLink, OutputAlone, InputAlone, MessagePasses, IsUnfinished, EndIsToCome, GetsAhead, all_got, end_comes, message_comes, BeginsAlone, all_begun, output_begins, input_begins, IsAhead, PartMeans, HavePassed, Means}
 use Rattle.vc_network.proofs.Wiring.{carried as is_carried}
 use Rattle.vc_network.specs.Network.{Node, IsNode}
@@ -47,10 +48,20 @@ use Rattle.vc_program.specs.Program.{Program, Move, Goes, Stops, Passes, Makes, 
 use Rattle.vc_program.specs.SiteSteps.{SameKind}
 use Rattle.vc_switch.specs.Waiting.{Waiting}
 
--- the state means the same, or what one move leads to
-pub data Meant (p : Plan) (s : Program) (y : NetworkState) : Type 0 where
-  as_before : Means p y s → Meant p s y
-  by_move : (m : Move) (t : Program) → Makes p s m t → Means p y t → Meant p s y
+-- one thing more has begun alone
+pub record Begins (p : Plan) (x y : NetworkState) : Type 0 where
+  pub late : all_late p y ≡ all_late p x
+  pub alone : all_alone p y ≡ suc (all_alone p x)
+
+-- the state means what one move leads to, or the same, and one thing more has begun alone
+pub data Meant (p : Plan) (s : Program) (x y : NetworkState) : Type 0 where
+  begun : Means p y s → Begins p x y → Meant p s x y
+  by_move : (m : Move) (t : Program) → Makes p s m t → Means p y t → Meant p s x y
+
+-- it means the same, and less is to come, or nothing has changed
+pub data Carried (p : Plan) (s : Program) (x y : NetworkState) : Type 0 where
+  less_late : Means p y s → suc (all_late p y) ≡ all_late p x → Carried p s x y
+  unchanged : Means p y s → all_late p y ≡ all_late p x → all_alone p y ≡ all_alone p x → Carried p s x y
 
 fin_same : (c d : ℕ) → Fin c ∷ [] ≡ Fin d ∷ [] → c ≡ d
 fin_same c d e = cc
@@ -171,16 +182,16 @@ module _ (p : Plan) (rule : Waiting) (acc : IsAccepted p) (x y : NetworkState) (
   part_put same t q = subst (PartMeans p y b.process.state) (sym (put-same s.part n t)) (carried q (λ d. carries_same (same d)))
 
   -- an event by which no process goes on
-  pub nothing_changes : b.process ≡ a.process → ((d : ℕ) → view N y d ≡ view N x d) → Means p y s
+  pub nothing_changes : b.process ≡ a.process → ((d : ℕ) → view N y d ≡ view N x d) → Carried p s x y
   nothing_changes e views =
       let same : (d : ℕ) → SameAt p x y d = λ d. same_at d (views d) (ap (λ (z : Process). total (is_in d) (waiting z.state.rest)) e) in
-      record {
+      unchanged (record {
         part = parts s.part (carried (subst (λ (z : Process). PartMeans p x z.state (s.part n)) (sym e) (part_of n few a ea)) (λ d. carries_same (same d))) (λ k l ne c ec. carried (part_of k l c ec) (λ d. carries_same (same d)));
         stopped = λ d l. means.stopped d l ∙ ap (λ (z : View). z.stopped) (sym (views d));
         passed = λ d l. have_passed (same d) (means.passed d l);
-      }
+      }) (all_late_same p x y same) (all_alone_same p x y same)
 
-  pub rests : (i : ℕ) → ((d : ℕ) → view N y d ≡ view N x d) → StepsTo a.process.state i action.Quiet [] b.process.state → Meant p s y
+  pub rests : (i : ℕ) → ((d : ℕ) → view N y d ≡ view N x d) → StepsTo a.process.state i action.Quiet [] b.process.state → Meant p s x y
   rests i views st =
       let g = goes_plain i action.Quiet [] tt (λ m e. cc) (λ c e. cc) st (λ u w h. step_waits h) in
       let same : (d : ℕ) → SameAt p x y d = λ d. same_at d (views d) (ap (total (is_in d)) (step_waits st)) in
@@ -190,7 +201,7 @@ module _ (p : Plan) (rule : Waiting) (acc : IsAccepted p) (x y : NetworkState) (
         passed = λ d l. have_passed (same d) (means.passed d l);
       })
 
-  pub stops_channel : (i c : ℕ) → ((d : ℕ) → (d ≡ c → ⊥) → view N y d ≡ view N x d) → view N y c ≡ record (view N x c) { stopped = true } → StepsTo a.process.state i (action.StopChannel c) (Stp c ∷ []) b.process.state → Meant p s y
+  pub stops_channel : (i c : ℕ) → ((d : ℕ) → (d ≡ c → ⊥) → view N y d ≡ view N x d) → view N y c ≡ record (view N x c) { stopped = true } → StepsTo a.process.state i (action.StopChannel c) (Stp c ∷ []) b.process.state → Meant p s x y
   stops_channel i c views stop st =
       let g = goes_plain i (action.StopChannel c) (Stp c ∷ []) tt (λ m e. cc) (λ d e. cc) st (λ u w h. step_waits h) in
       let same : (d : ℕ) → SameAt p x y d = λ d. elim (cases_eq d c) [
@@ -248,7 +259,7 @@ module _ (p : Plan) (rule : Waiting) (acc : IsAccepted p) (x y : NetworkState) (
       (omega arith, omega arith)
 
   pub meets_inside : (i j c : ℕ) (g : Option ℕ) (m : List ℕ) (e f : Datum) (t u : State) → home N c ≡ Inside n → (view N x c).stopped ≡ false → m ≡ message e → ((d : ℕ) → (d ≡ c → ⊥) → view N y d ≡ view N x d) →
-      (view N y c).taken ≡ (view N x c).taken ++ m ∷ [] → (view N y c).stopped ≡ (view N x c).stopped → StepsTo a.process.state i (action.Offer c) (Out c e ∷ []) t → StepsTo t j (meeting g c m) (In c f ∷ []) u → StepsTo u i action.Finish (Fin c ∷ []) b.process.state → Meant p s y
+      (view N y c).taken ≡ (view N x c).taken ++ m ∷ [] → (view N y c).stopped ≡ (view N x c).stopped → StepsTo a.process.state i (action.Offer c) (Out c e ∷ []) t → StepsTo t j (meeting g c m) (In c f ∷ []) u → StepsTo u i action.Finish (Fin c ∷ []) b.process.state → Meant p s x y
   meets_inside i j c g m e f t u h going is views took stop st st2 st3 =
       let off : IsOnLink p c → ⊥ = λ l. (let z : Way l.0 l.1 ≡ Inside n = sym l.2 ∙ h in cc) in
       let q = part_of n few a ea in
@@ -459,13 +470,23 @@ module _ (p : Plan) (rule : Waiting) (acc : IsAccepted p) (x y : NetworkState) (
       none_in : total (is_in c) (waiting q.both.rest) ≡ 0
       none_in = let f = (ahead_fewer c q.ahead).1 in let g = no_ins n few a ea not_sink in omega arith
 
-      pub begins_alone : (in_half p x c).wants ≡ false → Meant p s y
+      stands_x_at : (w : Bool) → (in_half p x c).wants ≡ w → Stands p x c 0 0 w
+      stands_x_at w e = record { not_taken = (let r = ap length all_taken in omega arith); not_finished = (let r = idle in omega arith); asked = e }
+
+      stands_y : (in_half p x c).wants ≡ false → Stands p y c 1 1 false
+      stands_y unasked = record {
+        not_taken = (let r = ap length under_way_y in let f = length-append (view N y c).taken (m ∷ []) in omega arith);
+        not_finished = (let r = ap length offers in let f = length-append (view N x c).offered (m ∷ []) in let k = ends_same in let l = idle in omega arith);
+        asked = asks ∙ unasked;
+      }
+
+      pub begins_alone : (in_half p x c).wants ≡ false → Meant p s x y
       begins_alone unasked =
           let mine : OutputAlone p y c m = record { on_link = on_link; offered = under_way_y; unasked = asks ∙ unasked } in
           let none_y : (l : List ℕ) → MessagePasses p y c l → ⊥ = λ l k. true_false (in_half p y c).wants k.asked (asks ∙ unasked) in
           let no_end_y : EndIsToCome p y c → ⊥ = λ k. elim k [ inl z ↦ not_all_y z.taken | inr z ↦ none_y z.0 z.1 ] in
           let w = offer_counts u.1 in
-          as_before (stays
+          begun (stays
           (record {
             both = u.0;
             ahead = map_ahead u.2 (λ l k. absurd (no_end_x k)) (λ o l k. absurd (none_passes o k));
@@ -483,7 +504,10 @@ module _ (p : Plan) (rule : Waiting) (acc : IsAccepted p) (x y : NetworkState) (
           (record {
             passing = λ l k. absurd (none_y l k);
             taken = λ none. (means.passed c less).taken none_passes ∙ sym takes;
-          }))
+          })) (record {
+            late = (let r = late_changes p x y c v ab h less there_at 0 0 1 1 false false (stands_x_at false unasked) (stands_y unasked) in omega arith);
+            alone = (let r = alone_changes p x y c v ab h less there_at 0 0 1 1 false false (stands_x_at false unasked) (stands_y unasked) in omega arith);
+          })
 
       -- the process whose input has begun, once it has the message
       record Received (z : Node Process) : Type 0 where
@@ -523,7 +547,7 @@ module _ (p : Plan) (rule : Waiting) (acc : IsAccepted p) (x y : NetworkState) (
           ]
 
       -- an input of its message has begun: the message passes
-      pub passes_on : (in_half p x c).wants ≡ true → Meant p s y
+      pub passes_on : (in_half p x c).wants ≡ true → Meant p s x y
       passes_on asked =
           let mine : MessagePasses p y c m = record { on_link = on_link; offered = under_way_y; asked = asks ∙ asked } in
           let only : (l : List ℕ) → MessagePasses p y c l → l ≡ m = λ l k. next_one (view N y c).taken l m (sym k.offered ∙ under_way_y) in
@@ -592,7 +616,7 @@ module _ (p : Plan) (rule : Waiting) (acc : IsAccepted p) (x y : NetworkState) (
       none_in3 = let f = (ahead_fewer c q2.ahead).1 in let g = sink_waits p rule acc x ks rx c v ab h n few a ea is_snk ∙ ap bit unasked in omega arith
 
       -- no output of its message has begun
-      pub asks_alone : (i : ℕ) → StepsTo a.process.state i (action.Want c None) [] b.process.state → (in_half p y c).wants ≡ true → (view N x c).taken ≡ (view N x c).offered → (view N y c).taken ≡ (view N x c).taken → Meant p s y
+      pub asks_alone : (i : ℕ) → StepsTo a.process.state i (action.Want c None) [] b.process.state → (in_half p y c).wants ≡ true → (view N x c).taken ≡ (view N x c).offered → (view N y c).taken ≡ (view N x c).taken → Meant p s x y
       asks_alone i st asked all_taken takes =
           let all_y : (view N y c).taken ≡ (view N y c).offered = takes ∙ all_taken ∙ sym offered_same in
           let mine : InputAlone p y c = record { on_link = on_link; taken = all_y; asked = asked } in
@@ -602,7 +626,10 @@ module _ (p : Plan) (rule : Waiting) (acc : IsAccepted p) (x y : NetworkState) (
           let to_x : EndIsToCome p y c → EndIsToCome p x c = λ k. elim k [ inl z ↦ inl (record { on_link = on_link; taken = all_taken; unfinished = ap length (sym offered_same) ∙ z.unfinished ∙ ap suc ends_same }) | inr z ↦ absurd (none_y z.0 z.1) ] in
           let u = ahead_beside q2.ahead st tt a_kept in
           let w = asking_waits None u.1 in
-          as_before (stays
+          let open_now = length (view N x c).offered - (view N x c).finished in
+          let stands_before : Stands p x c 0 open_now false = record { not_taken = (let r = ap length all_taken in omega arith); not_finished = refl; asked = unasked } in
+          let stands_after : Stands p y c 0 open_now true = record { not_taken = (let r = ap length all_y in omega arith); not_finished = ap (λ z. length z - (view N y c).finished) offered_same ∙ ap (λ z. length (view N x c).offered - z) ends_same; asked = asked } in
+          begun (stays
           (record {
             both = u.0;
             ahead = map_ahead u.2 (λ l k. to_y k) (λ o l k. absurd (none_passes2 o k));
@@ -622,7 +649,10 @@ module _ (p : Plan) (rule : Waiting) (acc : IsAccepted p) (x y : NetworkState) (
           (record {
             passing = λ l k. absurd (none_y l k);
             taken = λ none. (means.passed c less).taken none_passes2 ∙ sym takes;
-          }))
+          })) (record {
+            late = (let r = late_changes p x y c v ab h less there_at 0 open_now 0 open_now false true stands_before stands_after in omega arith);
+            alone = (let r = alone_changes p x y c v ab h less there_at 0 open_now 0 open_now false true stands_before stands_after in omega arith);
+          })
 
       -- an output of its message has begun: the message passes
       module _ (m : List ℕ) (under_way_x : (view N x c).offered ≡ (view N x c).taken ++ m ∷ []) (busy : (z : Node Process) → x.state src ≡ IsNode z → total (is_out c) (waiting z.process.state.rest) ≡ 1) (ending : EndIsToCome p y c) (g : Option ℕ) (i : ℕ) where
@@ -722,7 +752,7 @@ module _ (p : Plan) (rule : Waiting) (acc : IsAccepted p) (x y : NetworkState) (
               };
             }
 
-        pub met : Took → ((e : Datum) → message e ≡ m → HavePassed p y c (s.passed c ++ message e ∷ [])) → Meant p s y
+        pub met : Took → ((e : Datum) → message e ≡ m → HavePassed p y c (s.passed c ++ message e ∷ [])) → Meant p s x y
         met w pass =
             let r = means.part src ends.source in
             let f = sender r.0 r.1 r.2 in
@@ -746,7 +776,7 @@ module _ (p : Plan) (rule : Waiting) (acc : IsAccepted p) (x y : NetworkState) (
             })
 
         -- it begins to wait
-        pub waits_on : StepsTo a.process.state i (asking g c None) [] b.process.state → MessagePasses p y c m → (view N y c).taken ≡ (view N x c).taken → Meant p s y
+        pub waits_on : StepsTo a.process.state i (asking g c None) [] b.process.state → MessagePasses p y c m → (view N y c).taken ≡ (view N x c).taken → Meant p s x y
         waits_on st mine takes = met (begins_to_wait st mine) (λ e is. record {
           passing = λ l k. (let same : l ≡ m = next_one (view N y c).taken l m (sym k.offered ∙ mine.offered) in
               ap (λ z. z ++ message e ∷ []) ((means.passed c less).taken none_passes2 ∙ sym takes) ∙ ap (λ z. (view N y c).taken ++ z ∷ []) (is ∙ sym same));
@@ -754,7 +784,7 @@ module _ (p : Plan) (rule : Waiting) (acc : IsAccepted p) (x y : NetworkState) (
         })
 
         -- it has the message at once
-        pub has_at_once : (e : Datum) → StepsTo a.process.state i (meeting g c m) (In c e ∷ []) b.process.state → (in_half p y c).wants ≡ false → (view N y c).taken ≡ (view N x c).taken ++ m ∷ [] → Meant p s y
+        pub has_at_once : (e : Datum) → StepsTo a.process.state i (meeting g c m) (In c e ∷ []) b.process.state → (in_half p y c).wants ≡ false → (view N y c).taken ≡ (view N x c).taken ++ m ∷ [] → Meant p s x y
         has_at_once e st unasked_y took =
             let none_y : (l : List ℕ) → MessagePasses p y c l → ⊥ = λ l k. true_false (in_half p y c).wants k.asked unasked_y in
             met (takes_at_once e st none_y) (λ f is. record {
@@ -765,7 +795,7 @@ module _ (p : Plan) (rule : Waiting) (acc : IsAccepted p) (x y : NetworkState) (
     -- ---- a message comes, or the end of an output
 
     pub message_came : (i : ℕ) (m : List ℕ) (e : Datum) → StepsTo a.process.state i (action.Message m) (In c e ∷ []) b.process.state → snk ≡ n → (in_half p x c).wants ≡ true → (in_half p y c).wants ≡ false → (view N x c).offered ≡ (view N x c).taken ++ m ∷ [] → (view N x c).finished ≡ length (view N x c).taken →
-        (view N y c).offered ≡ (view N x c).offered → (view N y c).taken ≡ (view N x c).taken ++ m ∷ [] → (view N y c).finished ≡ (view N x c).finished → (view N y c).stopped ≡ (view N x c).stopped → Means p y s
+        (view N y c).offered ≡ (view N x c).offered → (view N y c).taken ≡ (view N x c).taken ++ m ∷ [] → (view N y c).finished ≡ (view N x c).finished → (view N y c).stopped ≡ (view N x c).stopped → Carried p s x y
     message_came i m e st is_snk asked unasked_y under_way_x count_x offered_same took ends_same stop =
         let mine : MessagePasses p x c m = record { on_link = on_link; offered = under_way_x; asked = asked } in
         let only : (l : List ℕ) → MessagePasses p x c l → m ≡ l = λ l k. next_one (view N x c).taken m l (sym under_way_x ∙ k.offered) in
@@ -783,7 +813,7 @@ module _ (p : Plan) (rule : Waiting) (acc : IsAccepted p) (x y : NetworkState) (
         let out0 : total (is_out c) (waiting b.process.state.rest) ≡ 0 = w.2 c ∙ no_outs n few a ea not_src in
         let in0 : total (is_in c) (waiting b.process.state.rest) ≡ 0 = (let r = w.0 in let f = sink_waits p rule acc x ks rx c v ab h n few a ea is_snk ∙ ap bit asked in omega arith) in
         let f = ahead_fewer c first in
-        stays
+        less_late (stays
         (carried (record { both = q.both; ahead = first; all_came = q.all_came; alone = q.alone; waits_not = q.waits_not }) (carries_at (carries_none out0 in0 f.0 f.1)))
         (λ k l ne z ez.
         let o = part_of k l z ez in
@@ -798,11 +828,22 @@ module _ (p : Plan) (rule : Waiting) (acc : IsAccepted p) (x y : NetworkState) (
           came = λ t r g. absurd (none_y t g);
         })))
         stop
-        (record { passing = λ l k. absurd (none_y l k); taken = λ none. (means.passed c less).passing m mine ∙ sym took })
+        (record { passing = λ l k. absurd (none_y l k); taken = λ none. (means.passed c less).passing m mine ∙ sym took }))
+        (let r = late_changes p x y c v ab h less there_at 1 1 0 1 true false
+        (record {
+          not_taken = (let t = ap length under_way_x in let g = length-append (view N x c).taken (m ∷ []) in omega arith);
+          not_finished = (let t = ap length under_way_x in let g = length-append (view N x c).taken (m ∷ []) in let k = count_x in omega arith);
+          asked = asked;
+        })
+        (record {
+          not_taken = (let t = ap length all_y in omega arith);
+          not_finished = (let t = unfinished.unfinished in omega arith);
+          asked = unasked_y;
+        }) in omega arith)
 
     pub output_ended : (i : ℕ) → StepsTo a.process.state i action.Finish (Fin c ∷ []) b.process.state → src ≡ n → total (is_out c) (waiting a.process.state.rest) ≡ 1 → (view N x c).taken ≡ (view N x c).offered → length (view N x c).offered ≡ suc (view N x c).finished →
-        (view N y c).offered ≡ (view N x c).offered → (view N y c).taken ≡ (view N x c).taken → (view N y c).stopped ≡ (view N x c).stopped → (in_half p y c).wants ≡ (in_half p x c).wants → Means p y s
-    output_ended i st is_src one all_taken open_x offered_same takes stop asks =
+        (view N y c).offered ≡ (view N x c).offered → (view N y c).taken ≡ (view N x c).taken → (view N y c).finished ≡ suc (view N x c).finished → (view N y c).stopped ≡ (view N x c).stopped → (in_half p y c).wants ≡ (in_half p x c).wants → Carried p s x y
+    output_ended i st is_src one all_taken open_x offered_same takes now_ended stop asks =
         let unfinished : IsUnfinished p x c = record { on_link = on_link; taken = all_taken; unfinished = open_x } in
         let all_y : (view N y c).taken ≡ (view N y c).offered = takes ∙ all_taken ∙ sym offered_same in
         let none_x : (l : List ℕ) → MessagePasses p x c l → ⊥ = λ l k. never_both (view N x c).taken (view N x c).offered l all_taken k.offered in
@@ -813,7 +854,7 @@ module _ (p : Plan) (rule : Waiting) (acc : IsAccepted p) (x y : NetworkState) (
         let out0 : total (is_out c) (waiting b.process.state.rest) ≡ 0 = (let r = w.0 in omega (arith, one)) in
         let in0 : total (is_in c) (waiting b.process.state.rest) ≡ 0 = w.2 c ∙ no_ins n few a ea (λ k. ends.apart (is_src ∙ sym k)) in
         let f = ahead_fewer c first in
-        stays
+        less_late (stays
         (carried (record { both = q.both; ahead = first; all_came = q.all_came; alone = q.alone; waits_not = q.waits_not }) (carries_at (carries_none out0 in0 f.0 f.1)))
         (λ k l ne z ez.
         let o = part_of k l z ez in
@@ -828,4 +869,7 @@ module _ (p : Plan) (rule : Waiting) (acc : IsAccepted p) (x y : NetworkState) (
           came = λ t r g. absurd (none_y t g);
         })))
         stop
-        (record { passing = λ l k. absurd (none_y l k); taken = λ none. (means.passed c less).taken none_x ∙ sym takes })
+        (record { passing = λ l k. absurd (none_y l k); taken = λ none. (means.passed c less).taken none_x ∙ sym takes }))
+        (let r = late_changes p x y c v ab h less there_at 0 1 0 0 (in_half p x c).wants (in_half p y c).wants
+        (record { not_taken = (let t = ap length all_taken in omega arith); not_finished = (let t = open_x in omega arith); asked = refl })
+        (record { not_taken = (let t = ap length all_y in omega arith); not_finished = (let t = open_x in let g = ap length offered_same in let k = now_ended in omega arith); asked = refl }) in omega arith)

@@ -1,9 +1,11 @@
 pub mod Sequences
 pub mod Channels
 pub mod Counting
+pub mod Measures
 pub mod Known
 pub mod Ends
 pub mod Keeping
 pub mod Steps
 pub mod Opening
 pub mod Events
+pub mod Endings

@@ -23,10 +23,10 @@ use Rattle.vc_meaning.proofs.Channels.{never_both, one_there, one_asked}
 use Rattle.vc_meaning.proofs.Counting.{bit_same, took_waits}
 use Rattle.vc_meaning.proofs.Ends.{two_nodes}
 use Rattle.vc_meaning.proofs.Keeping as keeping
-use Rattle.vc_meaning.proofs.Keeping.{Meant, as_before, by_move, asking, asking_waits}
+use Rattle.vc_meaning.proofs.Keeping.{Meant, begun, by_move, Carried, less_late, unchanged, Begins, asking, asking_waits}
 use Rattle.vc_meaning.proofs.Known.{Course, at_rest, under_way, to_end, course, held, ready_of, source_waits, sink_waits, in_half_is, stopped_half}
 use Rattle.vc_meaning.proofs.Sequences.{finish_counts, message_counts, other_in}
-use Rattle.vc_meaning.specs.Events.{KeepsMeaning, keeps, moves}
+use Rattle.vc_meaning.proofs.Measures.{all_late, all_alone}
 use Rattle.vc_meaning.specs.Meaning.{IsOnLink, MessagePasses, IsUnfinished, EndIsToCome, Means}
 use Rattle.vc_network.proofs.NodeLinks.{said_by_pass}
 use Rattle.vc_network.specs.Actors.{Label, Step, ActBy, act_of}
@@ -47,7 +47,7 @@ use Rattle.vc_plan.specs.declared.plan.Plan.{Plan}
 use Rattle.vc_process.specs.Messages.{message}
 use Rattle.vc_process.specs.ProcessStep.{Offers, Wants, Chooses, Stops, Meets, Rests, Finishes, Receives}
 use Rattle.vc_process.specs.declared.datum.Datum.{Datum}
-use Rattle.vc_program.specs.Program.{Program, Move, Reaches}
+use Rattle.vc_program.specs.Program.{Program, Move, Makes, Reaches}
 use Rattle.vc_switch.specs.Waiting.{Waiting}
 use Rattle.vc_tokens.specs.Tokens.{Token}
 use Rattle.vc_vcp.specs.Carrier.{End, InHalf}
@@ -59,6 +59,14 @@ next_is xs m l h = same_Some l m (sym (slice_get_end xs l []) ∙ h)
 
 none_next : (xs : List (List ℕ)) (m : List ℕ) → slice_get xs (length xs) ≡ Some m → ⊥
 none_next xs m h = let e : None ≡ Some m = sym (slice_get_past xs (length xs) (omega arith)) ∙ h in cc
+
+-- what an event does: it makes a move of the program; or the meaning stays, and one thing more has begun alone, or less is to come, or nothing
+-- has changed but tokens
+pub data Nearer (p : Plan) (s : Program) (x : NetworkState) (act : Act) (y : NetworkState) : Type 0 where
+  makes_move : (IsNoMove act → ⊥) → (m : Move) (t : Program) → Makes p s m t → Means p y t → Nearer p s x act y
+  begins_one : Means p y s → Begins p x y → Nearer p s x act y
+  comes_nearer : Means p y s → suc (all_late p y) ≡ all_late p x → Nearer p s x act y
+  carries_on : IsNoMove act → Means p y s → all_late p y ≡ all_late p x → all_alone p y ≡ all_alone p x → Nearer p s x act y
 
 module _ (p : Plan) (rule : Waiting) (acc : IsAccepted p) (x y : NetworkState) (ks ls : List (ℕ × Comm)) (rx : SoFar p rule (known_of p acc).ok (kind_on p) (known_of p acc).good x ks) (ry : SoFar p rule (known_of p acc).ok (kind_on p) (known_of p acc).good y ls)
     (ms : List Move) (s : Program) (reaches : Reaches p ms s) (means : Means p x s)
@@ -83,7 +91,7 @@ module _ (p : Plan) (rule : Waiting) (acc : IsAccepted p) (x y : NetworkState) (
 
   -- ---- an output begins
 
-  offers : (i c : ℕ) (m : List ℕ) (e : Datum) (end : End) → m ≡ message e → (network.ends N n).output c ≡ Some end → Views ((c, rendezvous.Out m) ∷ []) → StepsTo a.process.state i (action.Offer c) (Out c e ∷ []) b.process.state → Meant p s y
+  offers : (i c : ℕ) (m : List ℕ) (e : Datum) (end : End) → m ≡ message e → (network.ends N n).output c ≡ Some end → Views ((c, rendezvous.Out m) ∷ []) → StepsTo a.process.state i (action.Offer c) (Out c e ∷ []) b.process.state → Meant p s x y
   offers i c m e end is here views st = by_course (course p rule acc x ks rx c o.0 o.1 o.2)
     where
       o : (v : ℕ) × (ab : Bool) × (home N c ≡ Way v ab) × (source_node N (Way v ab) ≡ n)
@@ -98,7 +106,7 @@ module _ (p : Plan) (rule : Waiting) (acc : IsAccepted p) (x y : NetworkState) (
       ins : (d : ℕ) → total (is_in d) (waiting b.process.state.rest) ≡ total (is_in d) (waiting a.process.state.rest)
       ins d = let r = total_inserted (is_in d) (step_waits st) in omega arith
 
-      by_asked : (k : Bool) → (in_half p x c).wants ≡ k → (view N x c).taken ≡ (view N x c).offered → (view N x c).finished ≡ length (view N x c).offered → total (is_out c) (waiting a.process.state.rest) ≡ 0 → Meant p s y
+      by_asked : (k : Bool) → (in_half p x c).wants ≡ k → (view N x c).taken ≡ (view N x c).offered → (view N x c).finished ≡ length (view N x c).offered → total (is_out c) (waiting a.process.state.rest) ≡ 0 → Meant p s x y
       by_asked false asked taken count none =
           keeping.begins_alone p rule acc x y ks ls rx ry ms s reaches means n few a b ea eb others c o.0 o.1 o.2 (others_same c (rendezvous.Out m) views) (λ d ne. ins d) i e st o.3 count taken none
           (ap (λ (z : View). z.offered) after ∙ ap (λ z. (view N x c).offered ++ z ∷ []) is) (ap (λ (z : View). z.taken) after) (ap (λ (z : View). z.finished) after) (ap (λ (z : View). z.stopped) after)
@@ -108,7 +116,7 @@ module _ (p : Plan) (rule : Waiting) (acc : IsAccepted p) (x y : NetworkState) (
           (ap (λ (z : View). z.offered) after ∙ ap (λ z. (view N x c).offered ++ z ∷ []) is) (ap (λ (z : View). z.taken) after) (ap (λ (z : View). z.finished) after) (ap (λ (z : View). z.stopped) after)
           (keeping.asked_same p rule acc x y ks ls rx ry ms s reaches means n few a b ea eb others c (ins c) (o.0, o.1, o.2)) asked
 
-      by_course : Course (view N x c) (unacked_at c) → Meant p s y
+      by_course : Course (view N x c) (unacked_at c) → Meant p s x y
       by_course (at_rest taken count idle) = by_asked (in_half p x c).wants refl taken count (source_waits p rule acc x ks rx c o.0 o.1 o.2 n few a ea o.3 ∙ ap under idle)
       by_course (under_way l off count busy) = absurd (let f = w.1.0 in let g = ap length off in let k = length-append (view N x c).taken (l ∷ []) in omega arith)
       by_course (to_end taken count busy) = absurd (let f = w.1.0 in omega arith)
@@ -141,7 +149,7 @@ module _ (p : Plan) (rule : Waiting) (acc : IsAccepted p) (x y : NetworkState) (
     busy_at z ez l u e = e ∙ u
 
     -- it waits
-    asks : (g : Option ℕ) → StepsTo a.process.state i (asking g c None) [] b.process.state → (g ≡ None) ⊎ ((m : List ℕ) × ((view N x c).offered ≡ (view N x c).taken ++ m ∷ [])) → Views [] → Meant p s y
+    asks : (g : Option ℕ) → StepsTo a.process.state i (asking g c None) [] b.process.state → (g ≡ None) ⊎ ((m : List ℕ) × ((view N x c).offered ≡ (view N x c).taken ++ m ∷ [])) → Views [] → Meant p s x y
     asks g st some views = by_course (course p rule acc x ks rx c o2.0 o2.1 o2.2)
       where
         same : (d : ℕ) → view N y d ≡ view N x d
@@ -160,13 +168,13 @@ module _ (p : Plan) (rule : Waiting) (acc : IsAccepted p) (x y : NetworkState) (
             by_small true e l = e
             by_small false e l = absurd (omega arith)
 
-        alone : (g ≡ None) ⊎ ((m : List ℕ) × ((view N x c).offered ≡ (view N x c).taken ++ m ∷ [])) → (view N x c).taken ≡ (view N x c).offered → Meant p s y
+        alone : (g ≡ None) ⊎ ((m : List ℕ) × ((view N x c).offered ≡ (view N x c).taken ++ m ∷ [])) → (view N x c).taken ≡ (view N x c).offered → Meant p s x y
         alone (inr f) taken = absurd (never_both (view N x c).taken (view N x c).offered f.0 taken f.1)
         alone (inl e) taken =
             keeping.asks_alone p rule acc x y ks ls rx ry ms s reaches means n few a b ea eb others c o2.0 o2.1 o2.2 (λ d ne. same d) ins o2.3 unasked going (ap (λ (z : View). z.offered) (same c)) (ap (λ (z : View). z.finished) (same c)) (ap (λ (z : View). z.stopped) (same c))
             i (subst (λ z. StepsTo a.process.state i (asking z c None) [] b.process.state) e st) asked taken (ap (λ (z : View). z.taken) (same c))
 
-        by_course : Course (view N x c) (unacked_at c) → Meant p s y
+        by_course : Course (view N x c) (unacked_at c) → Meant p s x y
         by_course (at_rest taken count idle) = alone some taken
         by_course (to_end taken count busy) = alone some taken
         by_course (under_way m off count busy) =
@@ -179,7 +187,7 @@ module _ (p : Plan) (rule : Waiting) (acc : IsAccepted p) (x y : NetworkState) (
             m off (λ z ez. source_waits p rule acc x ks rx c o2.0 o2.1 o2.2 (source_node N (Way o2.0 o2.1)) ends2 z ez refl ∙ busy) (inr (m, mine)) g i st mine (ap (λ (z : View). z.taken) (same c))
 
     -- it has its message at once
-    has : (g : Option ℕ) (m : List ℕ) (e : Datum) → StepsTo a.process.state i (meeting g c m) (In c e ∷ []) b.process.state → Views ((c, rendezvous.In m) ∷ []) → Meant p s y
+    has : (g : Option ℕ) (m : List ℕ) (e : Datum) → StepsTo a.process.state i (meeting g c m) (In c e ∷ []) b.process.state → Views ((c, rendezvous.In m) ∷ []) → Meant p s x y
     has g m e st views = by_course (course p rule acc x ks rx c o2.0 o2.1 o2.2)
       where
         w : (w : View) × ((slice_get (view N x c).offered (length (view N x c).taken) ≡ Some m) × ((view N x c).stopped ≡ false) × (w ≡ record (view N x c) { taken = (view N x c).taken ++ m ∷ [] })) × (view N y c ≡ w)
@@ -194,7 +202,7 @@ module _ (p : Plan) (rule : Waiting) (acc : IsAccepted p) (x y : NetworkState) (
         unasked_y : (in_half p y c).wants ≡ false
         unasked_y = bit_same (in_half p y c).wants false (sym bits_y ∙ ins c ∙ none_in)
 
-        by_course : Course (view N x c) (unacked_at c) → Meant p s y
+        by_course : Course (view N x c) (unacked_at c) → Meant p s x y
         by_course (at_rest taken count idle) = absurd (none_next (view N x c).offered m (subst (λ z. slice_get (view N x c).offered (length z) ≡ Some m) taken w.1.0))
         by_course (to_end taken count busy) = absurd (none_next (view N x c).offered m (subst (λ z. slice_get (view N x c).offered (length z) ≡ Some m) taken w.1.0))
         by_course (under_way l off count busy) =
@@ -211,7 +219,7 @@ module _ (p : Plan) (rule : Waiting) (acc : IsAccepted p) (x y : NetworkState) (
 
   -- ---- a message comes, or the end of an output
 
-  receives : (i c : ℕ) (m : List ℕ) (e : Datum) → StepsTo a.process.state i (action.Message m) (In c e ∷ []) b.process.state → Views ((c, rendezvous.In m) ∷ []) → Means p y s
+  receives : (i c : ℕ) (m : List ℕ) (e : Datum) → StepsTo a.process.state i (action.Message m) (In c e ∷ []) b.process.state → Views ((c, rendezvous.In m) ∷ []) → Carried p s x y
   receives i c m e st views = by_course (course p rule acc x ks rx c o.0 o.1 o.2)
     where
       in_same : (k l : ℕ) (f g : Datum) → In k f ∷ [] ≡ In l g ∷ [] → k ≡ l
@@ -248,7 +256,7 @@ module _ (p : Plan) (rule : Waiting) (acc : IsAccepted p) (x y : NetworkState) (
       after : view N y c ≡ record (view N x c) { taken = (view N x c).taken ++ m ∷ [] }
       after = w.2 ∙ w.1.2
 
-      by_course : Course (view N x c) (unacked_at c) → Means p y s
+      by_course : Course (view N x c) (unacked_at c) → Carried p s x y
       by_course (at_rest taken count idle) = absurd (none_next (view N x c).offered m (subst (λ z. slice_get (view N x c).offered (length z) ≡ Some m) taken w.1.0))
       by_course (to_end taken count busy) = absurd (none_next (view N x c).offered m (subst (λ z. slice_get (view N x c).offered (length z) ≡ Some m) taken w.1.0))
       by_course (under_way l off count busy) =
@@ -256,7 +264,7 @@ module _ (p : Plan) (rule : Waiting) (acc : IsAccepted p) (x y : NetworkState) (
           keeping.message_came p rule acc x y ks ls rx ry ms s reaches means n few a b ea eb others c o.0 o.1 o.2 (others_same c (rendezvous.In m) views) ins_same i m e st o.3 asked unasked_y (off ∙ ap (λ z. (view N x c).taken ++ z ∷ []) is) count
           (ap (λ (z : View). z.offered) after) (ap (λ (z : View). z.taken) after) (ap (λ (z : View). z.finished) after) (ap (λ (z : View). z.stopped) after)
 
-  finishes : (i c : ℕ) → StepsTo a.process.state i action.Finish (Fin c ∷ []) b.process.state → Views ((c, rendezvous.Fin) ∷ []) → Means p y s
+  finishes : (i c : ℕ) → StepsTo a.process.state i action.Finish (Fin c ∷ []) b.process.state → Views ((c, rendezvous.Fin) ∷ []) → Carried p s x y
   finishes i c st views = by_course (course p rule acc x ks rx c o.0 o.1 o.2)
     where
       fin_same : (k l : ℕ) → Fin k ∷ [] ≡ Fin l ∷ [] → k ≡ l
@@ -281,21 +289,17 @@ module _ (p : Plan) (rule : Waiting) (acc : IsAccepted p) (x y : NetworkState) (
       ins : (d : ℕ) → total (is_in d) (waiting b.process.state.rest) ≡ total (is_in d) (waiting a.process.state.rest)
       ins d = sym (finish_counts d st).1
 
-      by_course : Course (view N x c) (unacked_at c) → Means p y s
+      by_course : Course (view N x c) (unacked_at c) → Carried p s x y
       by_course (at_rest taken count idle) = absurd (let f = w.1.0 in let g = ap length taken in omega arith)
       by_course (under_way l off count busy) = absurd (let f = w.1.0 in omega arith)
       by_course (to_end taken count busy) =
           keeping.output_ended p rule acc x y ks ls rx ry ms s reaches means n few a b ea eb others c o.0 o.1 o.2 (others_same c rendezvous.Fin views) (λ d ne. ins d) i st o.3 (source_waits p rule acc x ks rx c o.0 o.1 o.2 n few a ea o.3 ∙ busy) taken count
-          (ap (λ (z : View). z.offered) after) (ap (λ (z : View). z.taken) after) (ap (λ (z : View). z.stopped) after)
+          (ap (λ (z : View). z.offered) after) (ap (λ (z : View). z.taken) after) (ap (λ (z : View). z.finished) after) (ap (λ (z : View). z.stopped) after)
           (keeping.asked_same p rule acc x y ks ls rx ry ms s reaches means n few a b ea eb others c (ins c) (o.0, o.1, o.2))
 
   -- ---- what the node does
 
-  told : {k : Act} → Meant p s y → (IsNoMove k → ⊥) → KeepsMeaning p s k y
-  told (as_before h) never = keeps h
-  told (by_move m t st h) never = moves never m t st h
-
-  goes_on : (taken : Option node.Taken) → Views (said_by_pass taken) → (goes : GoesOn does a.process taken b.process) → Means p y s
+  goes_on : (taken : Option node.Taken) → Views (said_by_pass taken) → (goes : GoesOn does a.process taken b.process) → Carried p s x y
   goes_on None v goes = keeping.nothing_changes p rule acc x y ks ls rx ry ms s reaches means n few a b ea eb others goes (all_same v)
   goes_on (Some (node.Held c)) v goes = keeping.nothing_changes p rule acc x y ks ls rx ry ms s reaches means n few a b ea eb others goes (all_same v)
   goes_on (Some (node.Stored c)) v goes = keeping.nothing_changes p rule acc x y ks ls rx ry ms s reaches means n few a b ea eb others goes (all_same v)
@@ -304,7 +308,7 @@ module _ (p : Plan) (rule : Waiting) (acc : IsAccepted p) (x y : NetworkState) (
   goes_on (Some (node.Complete c m)) v goes = let d = goes.does in receives d.0 c m d.1 (subst (λ z. StepsTo a.process.state d.0 (action.Message m) z b.process.state) d.2 d.3) v
   goes_on (Some (node.Finished c)) v goes = let d = goes.does in finishes d.0 c (subst (λ z. StepsTo a.process.state d.0 action.Finish z b.process.state) d.1 d.2) v
 
-  moved : (m : made.Move) (h : Moves N does n a m b) → Views (said_in N does n a b (Own (Proc m)) h) → Meant p s y
+  moved : (m : made.Move) (h : Moves N does n a m b) → Views (said_in N does n a b (Own (Proc m)) h) → Meant p s x y
   moved (made.Offer i c) (m, k, o, rest) v =
       let d = (goes_of a.process b.process (Offers i c m) k).does in
       offers i c m d.0 o.end d.1 o.here v (subst (λ z. StepsTo a.process.state i (action.Offer c) z b.process.state) d.2 d.3)
@@ -353,13 +357,21 @@ module _ (p : Plan) (rule : Waiting) (acc : IsAccepted p) (x y : NetworkState) (
       let d = (goes_of a.process b.process (Rests i) k).does in
       keeping.rests p rule acc x y ks ls rx ry ms s reaches means n few a b ea eb others i (all_same v) (subst (λ z. StepsTo a.process.state i action.Quiet z b.process.state) d.0 d.1)
 
-  stays_so : (label : Label Act Token) (h : NodeStep N does n a label b) → Views [] → b.process ≡ a.process → KeepsMeaning p s (act_of label) y
-  stays_so label h v e = keeps (keeping.nothing_changes p rule acc x y ks ls rx ry ms s reaches means n few a b ea eb others e (all_same v))
+  by_process : (m : made.Move) → Meant p s x y → Nearer p s x (Proc m) y
+  by_process m (begun h k) = begins_one h k
+  by_process m (by_move mv t st h) = makes_move (λ z. z) mv t st h
 
-  pub node_event : (label : Label Act Token) (h : NodeStep N does n a label b) → Views (said_in N does n a b label h) → KeepsMeaning p s (act_of label) y
-  node_event (Own (Proc m)) h v = told (moved m h v) (λ z. z)
-  node_event (Own (Pass l)) (taken, pass, goes, inner) v = keeps (goes_on taken v goes)
-  node_event (Takes (Take l word) w k) h v = stays_so (Takes (Take l word) w k) h v h.2.process
-  node_event (Puts (Put l) w k) h v = stays_so (Puts (Put l) w k) h v h.2.process
-  node_event (Puts (Fct l) w k) h v = stays_so (Puts (Fct l) w k) h v h.3.process
+  by_token : {k : Act} → IsNoMove k → Carried p s x y → Nearer p s x k y
+  by_token none (less_late h k) = comes_nearer h k
+  by_token none (unchanged h k l) = carries_on none h k l
+
+  stays_so : {k : Act} → IsNoMove k → Views [] → b.process ≡ a.process → Nearer p s x k y
+  stays_so none v e = by_token none (keeping.nothing_changes p rule acc x y ks ls rx ry ms s reaches means n few a b ea eb others e (all_same v))
+
+  pub node_event : (label : Label Act Token) (h : NodeStep N does n a label b) → Views (said_in N does n a b label h) → Nearer p s x (act_of label) y
+  node_event (Own (Proc m)) h v = by_process m (moved m h v)
+  node_event (Own (Pass l)) (taken, pass, goes, inner) v = by_token tt (goes_on taken v goes)
+  node_event (Takes (Take l word) w k) h v = stays_so tt v h.2.process
+  node_event (Puts (Put l) w k) h v = stays_so tt v h.2.process
+  node_event (Puts (Fct l) w k) h v = stays_so tt v h.3.process
   node_event d h v = absurd h

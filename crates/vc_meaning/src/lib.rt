@@ -1,5 +1,6 @@
 //! A network means its program: each state of an accepted network means one state of the program of its processes (`vc_program`), and each
-//! event keeps that meaning, or is one move of the program. Definitions and laws, with no premise on the network's wires.
+//! event keeps that meaning, or is one move of the program, with no premise on the network's wires. If the wires are free, a program that
+//! always ends, ends on the network. Definitions and laws.
 //!
 //! A message has passed once both its output and its input, or a guard, have begun. Where one of the two has begun alone, the program's
 //! process is before it. Where both have, it has the message, or the end of its output, before the network brings it
@@ -7,6 +8,7 @@
 //! schedule of the program leads to.
 #![tactic(auto)]
 
+ghost use Rattle.vc_meaning.specs.Endings.{EndsAnywhere};
 ghost use Rattle.vc_meaning.specs.Events.{EventsKeepMeaning, OpeningMeans, StatesAreMeant};
 
 /// The opening state of an accepted network means the opening state of its program.
@@ -25,4 +27,10 @@ pub fn events_keep_the_meaning()
 /// leads, with no more moves than events.
 pub fn each_state_means_one()
     ensures { StatesAreMeant }
+{}
+
+/// A program that always ends, ends on its network, whatever the order of its events. If no schedule of the program of an accepted plan has
+/// more than so many moves, and the network's ports have ranks, then under either waiting rule no events go on for ever.
+pub fn ends_anywhere()
+    ensures { EndsAnywhere }
 {}
