@@ -27,4 +27,5 @@ pub mod Rest
 pub mod Quiet
 pub mod PlanChannels
 pub mod Schedules
+pub mod ByMoves
 pub mod NeverStuck
