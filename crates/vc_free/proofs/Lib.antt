@@ -28,4 +28,5 @@ pub mod Quiet
 pub mod PlanChannels
 pub mod Schedules
 pub mod ByMoves
+pub mod Agreement
 pub mod NeverStuck

@@ -13,6 +13,7 @@ ghost use Rattle.vc_free.specs.NeverStuck.{
   FreePlacementsNeverStop,
   ListsAreSchedules,
   NeverStuckAnywhere,
+  ProgramAndListsAgree,
   QuietNetworksAreOutcomes,
   SchedulesAreLists,
 };
@@ -75,6 +76,11 @@ pub fn lists_are_schedules()
 /// moment. So schedules and lists of communications say the same of a program.
 pub fn schedules_are_lists()
     ensures { SchedulesAreLists }
+{}
+
+/// The program of an accepted plan is never stuck by lists of communications exactly if no schedule of its moves gets stuck.
+pub fn program_and_lists_agree()
+    ensures { ProgramAndListsAgree }
 {}
 
 /// A program of which no schedule gets stuck stops on no free placement. If no schedule of the program of an accepted plan gets stuck, as
