@@ -10,7 +10,7 @@ mod traffic;
 
 pub use labelling::is_well_labelled;
 pub use line::over_a_line;
-pub use rest::close_of_run;
+pub use rest::{close_of_run, is_never_quiet};
 pub use scheduler::try_event;
 pub use threads::{OpenGate, left_by_threads, stops_behind_an_open_gate, stops_until_ended};
 pub use traffic::{to_come, under_way};
