@@ -17,7 +17,7 @@ use vc_core::Close;
 use vc_explore_text::{Finding, run_explore};
 use vc_free::free_placements_never_stop;
 use vc_stats::Form;
-use vc_text::{RunFault, run_step};
+use vc_text::{Meter, RunFault, run_step};
 
 /// Runs a network event by event, and reports how the run ended. If the network's ports have ranks, and no schedule of its program gets
 /// stuck, the run is not quiet: every process has ended, or as many events were made as were allowed.
@@ -50,7 +50,7 @@ pub fn is_never_quiet<R: Read, W: Write>(
         ((limit : ℕ) (events : List Event) (end : NetworkState) (close : Closing) →
         IsRunWithin plan InTurn limit events end close → close ≢ Quiet)) }
 {
-    let finding = run_explore(alloc, reader, writer, most, Form::Lines)?;
+    let finding = run_explore(alloc, reader, writer, most, Form::Lines, &Meter::new())?;
     match finding {
         Finding::Free => Ok(true),
         Finding::MayStop | Finding::Open => Ok(false),
