@@ -15,7 +15,7 @@ SOURCE = f"{ROOT}/crates/vc_words/src/definition.rt"
 PAGE = f"{ROOT}/docs/vcnet.1"
 TEXT = r'"((?:[^"\\]|\\[\s\S])*)"'
 # Which numbers an option takes, by what reads them.
-NUMBERS = {"counts()": "0 to 1,000,000,000", "value_parser!(u32)": "0 to 4,294,967,295", "state_counts()": "1 to 10,000,000"}
+NUMBERS = {"counts()": "0 to 1,000,000,000", "value_parser!(u32)": "0 to 4,294,967,295"}
 FILES = [
     ("docs/FORMAT.md", "The network file, with examples."),
     ("docs/REFUSALS.md", "Every refusal, with an example, and what explain prints."),
@@ -46,8 +46,8 @@ def without(text, numbers):
 def options(function, source):
     """Each option of the command that the function makes: its name, what it takes, what it does, its numbers, and what it is at first.
     The text of a flag that several commands have is a constant."""
-    texts = constants(source)
-    function = re.sub(rf"\b({'|'.join(texts)})\b", lambda it: f'"{texts[it[1]]}"', function)
+    for name, text in constants(source).items():
+        function = re.sub(rf"\b{name}\b", lambda _: f'"{text}"', function)
     numbered = re.findall(rf"number_option\(\s*alloc,\s*{TEXT},\s*{TEXT},\s*([^,]+?),\s*{TEXT},?\s*\)", function)
     optional = re.findall(rf"optional_number\(\s*alloc,\s*{TEXT},\s*{TEXT},\s*(\w+!?\(\w*\)),?\s*\)", function)
     files = re.findall(rf"file_option\(\s*alloc,\s*{TEXT},\s*{TEXT},?\s*\)", function)

@@ -55,7 +55,7 @@ void _exit(int status) {
 """
 SHORT = (b"fault memory\n", 4)
 WORDS = (
-    "check", "explain", "deadlock", "explore", "explore --json", "draw", "draw --after 100", "step", "step --why", "step --trace", "step --trace --why", "step --stats",
+    "check", "explain", "deadlock", "draw", "draw --after 100", "step", "step --why", "step --trace", "step --trace --why", "step --stats",
     "step --json", "step --stats --json", "step --together", "step --schedule 7",
 )
 TURNS = ["--turns", "200000", "--seed", "0"]

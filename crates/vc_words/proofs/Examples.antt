@@ -9,8 +9,6 @@ lines = record {
   check = (refl, refl);
   explain = (refl, refl);
   deadlock = (refl, refl);
-  explore = (refl, refl);
-  states = (refl, refl);
   label = (refl, refl);
   draw = (refl, refl);
   after = (refl, refl);
@@ -31,6 +29,5 @@ lines = record {
   no_events = refl;
   help = refl;
   version = refl;
-  no_states = refl;
   beyond = refl;
 }

@@ -1,5 +1,5 @@
 -- The command line: what `clap` is told of it, and what its matches ask for.
-use Rattle.std.specs.Prelude.{◌≡◌, ◌==◌, ◌&&◌, ℕ, Bool, true, false, Option, Some, None, List, [], ◌∷◌, codes, if◌then◌else◌, nat_lt, nat_le, length, option_and_then, option_map, unwrap_or, is_some, max, pos, ⊤, ◌≢◌, ◌<◌, ◌≤◌}
+use Rattle.std.specs.Prelude.{◌≡◌, ◌==◌, ◌&&◌, ℕ, Bool, true, false, Option, Some, None, List, [], ◌∷◌, codes, if◌then◌else◌, nat_lt, nat_le, length, option_and_then, option_map, unwrap_or, is_some, pos, ⊤, ◌≢◌, ◌≤◌}
 use Rattle.std.specs.List.{list_all}
 use Rattle.std.specs.Option.{option_map_or}
 use Rattle.std.specs.Char.{digit_value}
@@ -19,16 +19,15 @@ use Rattle.vc_text.specs.declared.schedule.Schedule.{Schedule}
 use Rattle.vc_text.specs.declared.schedule.Schedule.TheVariants.{InTurn, Random}
 use Rattle.vc_text.specs.declared.step_options.StepOptions.{StepOptions}
 use Rattle.vc_text.specs.declared.thread_options.ThreadOptions.{ThreadOptions}
-use Rattle.vc_stats.specs.declared.form.Form.{Form}
 use Rattle.vc_stats.specs.declared.form.Form.TheVariants.{Lines, Json as FormJson}
 use Rattle.vc_words.specs.declared.account.Account.{Account}
 use Rattle.vc_words.specs.declared.account.Account.TheVariants.{Traffic, Events, Counts, Json}
 use Rattle.vc_words.specs.declared.line.Line.{Line}
-use Rattle.vc_words.specs.declared.line.Line.TheVariants.{Check, Explain, Deadlock, Explore, Label, Draw, Step, Run, Replay}
+use Rattle.vc_words.specs.declared.line.Line.TheVariants.{Check, Explain, Deadlock, Label, Draw, Step, Run, Replay}
 use Rattle.vc_words.specs.declared.line_fault.LineFault.{LineFault}
 use Rattle.vc_words.specs.declared.line_fault.LineFault.TheVariants.{Bad, Memory}
 use Rattle.vc_words.specs.declared.progress.Progress.{Progress}
-use Rattle.vc_words.specs.declared.progress.Unit.TheVariants.{Events as EventsMade, Turns as TurnsMade, States as StatesLooked}
+use Rattle.vc_words.specs.declared.progress.Unit.TheVariants.{Events as EventsMade, Turns as TurnsMade}
 
 -- an option `--name N`, which numbers it takes, and what it is if it is not written
 abbrev pub option_of : Text → ValueParser → Text → Rule
@@ -103,22 +102,15 @@ explain_shape = subcommand_of_rules (codes "explain") []
 abbrev pub deadlock_shape : Shape
 deadlock_shape = subcommand_of_rules (codes "deadlock") []
 
--- whether the progress of a run is shown
-abbrev pub progress_flags : List Rule
-progress_flags = progress_flag ∷ no_progress_flag ∷ []
-
--- an exploration looks at one state or more
-abbrev pub states_option : Rule
-states_option = option_of (codes "states") (Unsigned 1 10000000) (codes "1000000")
-
-abbrev pub explore_shape : Shape
-explore_shape = subcommand_of_rules (codes "explore") (states_option ∷ json_flag ∷ progress_flags)
-
 abbrev pub label_shape : Shape
 label_shape = subcommand_of_rules (codes "label") []
 
 abbrev pub draw_shape : Shape
 draw_shape = subcommand_of_rules (codes "draw") (after_option ∷ [])
+
+-- whether the progress of a run is shown
+abbrev pub progress_flags : List Rule
+progress_flags = progress_flag ∷ no_progress_flag ∷ []
 
 -- and what is printed of it
 abbrev pub run_flags : List Rule
@@ -135,9 +127,9 @@ replay_shape = subcommand_of_rules (codes "replay") (events_option ∷ why_flag 
 
 abbrev pub vcnet : App
 vcnet =
-    with_subcommand (with_subcommand (with_subcommand (with_subcommand (with_subcommand (with_subcommand (with_subcommand (with_subcommand (with_subcommand
+    with_subcommand (with_subcommand (with_subcommand (with_subcommand (with_subcommand (with_subcommand (with_subcommand (with_subcommand
     (on_top (λ s. record s { subcommand_required = true; has_version = true }) (new_app (codes "vcnet")))
-    check_shape) explain_shape) deadlock_shape) explore_shape) draw_shape) step_shape) run_shape) replay_shape) label_shape
+    check_shape) explain_shape) deadlock_shape) draw_shape) step_shape) run_shape) replay_shape) label_shape
 
 -- the number that a text is, if it is one of at most `most`
 abbrev pub number_in : ℕ → Text → Option ℕ
@@ -178,19 +170,11 @@ thread_options_of rows = record {
   is_why = has_flag (codes "why") rows;
 }
 
--- the most states that an exploration looks at
-abbrev pub states_of : List Row → ℕ
-states_of rows = max (number_of (codes "states") 10000000 1000000 rows) 1
-
--- what is found is written as lines, or as JSON
-abbrev pub form_of : List Row → Form
-form_of rows = if has_flag (codes "json") rows then FormJson else Lines
-
 -- what is written of a run: if the events are asked for, these and the traffic alone
 abbrev pub account_of : List Row → Account
 account_of rows =
     if has_flag (codes "trace") rows then Events
-    else (if has_flag (codes "stats") rows then Counts (form_of rows)
+    else (if has_flag (codes "stats") rows then Counts (if has_flag (codes "json") rows then FormJson else Lines)
     else (if has_flag (codes "json") rows then Json else Traffic))
 
 -- what a subcommand and what was found of its options ask for
@@ -200,9 +184,8 @@ line_of (name, rows) =
     else (if bytes_eq name (codes "run") then Run (thread_options_of rows) (account_of rows)
     else (if bytes_eq name (codes "replay") then Replay (has_flag (codes "why") rows)
     else (if bytes_eq name (codes "draw") then Draw (number_at (codes "after") 1000000000 rows)
-    else (if bytes_eq name (codes "explore") then Explore (states_of rows) (form_of rows)
     else (if bytes_eq name (codes "explain") then Explain
-    else (if bytes_eq name (codes "deadlock") then Deadlock else (if bytes_eq name (codes "label") then Label else Check)))))))
+    else (if bytes_eq name (codes "deadlock") then Deadlock else (if bytes_eq name (codes "label") then Label else Check))))))
 
 -- the kinds of fault that the words have: none if they are a command line
 abbrev pub faults : List Text → Kinds
@@ -229,7 +212,6 @@ abbrev pub counted_of : Line → Option Progress
 counted_of (Step options account) = Some (record { unit = EventsMade; most = Some options.limit })
 counted_of (Run options account) = Some (record { unit = TurnsMade; most = Some options.turns })
 counted_of (Replay is_why) = Some (record { unit = EventsMade; most = None })
-counted_of (Explore states form) = Some (record { unit = StatesLooked; most = Some states })
 counted_of line = None
 
 -- whether progress is shown: never with --no-progress, and else with --progress and on a terminal
@@ -269,7 +251,6 @@ IsInRange Check = ⊤
 IsInRange Explain = ⊤
 IsInRange Deadlock = ⊤
 IsInRange Label = ⊤
-IsInRange (Explore states form) = (0 < states) × (states ≤ 10000000)
 IsInRange (Draw None) = ⊤
 IsInRange (Draw (Some after)) = after ≤ 1000000000
 IsInRange (Step options account) = options.limit ≤ 1000000000

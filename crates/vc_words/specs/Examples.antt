@@ -6,9 +6,9 @@ use Rattle.vc_text.specs.declared.schedule.Schedule.TheVariants.{InTurn, Random}
 use Rattle.vc_text.specs.declared.step_options.StepOptions.{StepOptions}
 use Rattle.vc_text.specs.declared.thread_options.ThreadOptions.{ThreadOptions}
 use Rattle.vc_words.specs.CommandLine.{Asks, NamesNetwork, faults}
-use Rattle.vc_stats.specs.declared.form.Form.TheVariants.{Lines, Json as FormJson}
+use Rattle.vc_stats.specs.declared.form.Form.TheVariants.{Lines}
 use Rattle.vc_words.specs.declared.account.Account.TheVariants.{Traffic, Events, Counts}
-use Rattle.vc_words.specs.declared.line.Line.TheVariants.{Check, Explain, Deadlock, Explore, Label, Draw, Step, Run, Replay}
+use Rattle.vc_words.specs.declared.line.Line.TheVariants.{Check, Explain, Deadlock, Label, Draw, Step, Run, Replay}
 
 -- the program's name, and then the other words
 abbrev pub line : List Text → List Text
@@ -25,8 +25,6 @@ pub record LinesAreRead : Type 0 where
   pub check : Asks (line (codes "check" ∷ [])) Check
   pub explain : Asks (line (codes "explain" ∷ [])) Explain
   pub deadlock : Asks (line (codes "deadlock" ∷ [])) Deadlock
-  pub explore : Asks (line (codes "explore" ∷ [])) (Explore 1000000 Lines)
-  pub states : Asks (line (codes "explore" ∷ codes "--states" ∷ codes "9" ∷ codes "--json" ∷ [])) (Explore 9 FormJson)
   pub label : Asks (line (codes "label" ∷ [])) Label
   pub draw : Asks (line (codes "draw" ∷ [])) (Draw None)
   pub after : Asks (line (codes "draw" ∷ codes "--after" ∷ codes "9" ∷ [])) (Draw (Some 9))
@@ -47,5 +45,4 @@ pub record LinesAreRead : Type 0 where
   pub no_events : faults (line (codes "replay" ∷ [])) ≡ MissingRequiredArgument ∷ []
   pub help : faults (line (codes "--help" ∷ [])) ≡ DisplayHelp ∷ []
   pub version : faults (line (codes "--version" ∷ [])) ≡ DisplayVersion ∷ []
-  pub no_states : faults (line (codes "explore" ∷ codes "--states" ∷ codes "0" ∷ [])) ≡ ValueValidation ∷ []
   pub beyond : faults (line (codes "step" ∷ codes "--limit" ∷ codes "1000000001" ∷ [])) ≡ ValueValidation ∷ []

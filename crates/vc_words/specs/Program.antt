@@ -1,9 +1,6 @@
 -- What the program does, over streams that tell their bytes.
 use Rattle.std.specs.Prelude.{◌≡◌, ◌≢◌, ◌⊎◌, ℕ, ◌≤◌, Bool, codes, List, [], ◌∷◌, ◌++◌, Option, Some, None, Result, Ok, Err, ⊤}
 use Rattle.vc_explain.specs.Explanation.{Explains}
-use Rattle.vc_explore_text.specs.Exploration.{TellsExplored}
-use Rattle.vc_explore_text.specs.declared.finding.Finding.{Finding}
-use Rattle.vc_stats.specs.declared.form.Form.{Form}
 use Rattle.vc_text.specs.CheckText.{Checks, ReadsAccepted}
 use Rattle.vc_text.specs.Deadlock.{TellsDeadlock}
 use Rattle.vc_text.specs.FaultLine.{fault_text}
@@ -35,9 +32,9 @@ use Rattle.clap.specs.Walk.{Text}
 use Rattle.clap.specs.Kinds.{IsAmong}
 use Rattle.clap.specs.declared.error.kind.ErrorKind.{ErrorKind}
 use Rattle.vc_words.specs.declared.line.Line.{Line}
-use Rattle.vc_words.specs.declared.line.Line.TheVariants.{Check, Explain, Deadlock, Explore, Label, Draw, Step, Run, Replay}
+use Rattle.vc_words.specs.declared.line.Line.TheVariants.{Check, Explain, Deadlock, Label, Draw, Step, Run, Replay}
 use Rattle.vc_words.specs.CommandLine.{Asks, IsInRange, NamesEvents, NamesNetwork, faults, status_of_kind}
-use Rattle.vc_words.specs.Status.{status_of_acceptance, status_of_fault, status_of_finding, status_of_freedom, status_of_end, status_of_replay}
+use Rattle.vc_words.specs.Status.{status_of_acceptance, status_of_fault, status_of_freedom, status_of_end, status_of_replay}
 
 -- the status that was wanted, or that of a fault in writing
 abbrev pub status_after : ℕ → Result ⊤ RunFault → ℕ
@@ -74,12 +71,6 @@ abbrev pub FindsDeadlock : Option (List ℕ) → Option (List ℕ) → Option (L
 FindsDeadlock known old new status =
     ((free : Bool) × TellsDeadlock known old new (Ok free) × (status ≡ status_of_freedom free))
     ⊎ ((fault : RunFault) × (mid : Option (List ℕ)) × TellsDeadlock known old mid (Err fault) × TellsFault mid new fault status)
-
--- what all schedules of its program come to is written, with whether its packets might wait, or a fault of it is told
-abbrev pub ExploresNetwork : ℕ → Form → Option (List ℕ) → Option (List ℕ) → Option (List ℕ) → ℕ → Type 0
-ExploresNetwork states form known old new status =
-    ((finding : Finding) × TellsExplored form known old new (Ok finding) × (status ≡ status_of_finding finding))
-    ⊎ ((fault : RunFault) × (mid : Option (List ℕ)) × TellsExplored form known old mid (Err fault) × TellsFault mid new fault status)
 
 -- it is labelled, and its whole file is written, or a fault of it is told
 abbrev pub LabelsNetwork : Option (List ℕ) → Option (List ℕ) → Option (List ℕ) → ℕ → Type 0
@@ -162,7 +153,6 @@ abbrev pub Does : Files → List Text → Line → Option (List ℕ) → Option 
 Does files words Check known old new status = ChecksNetwork known old new status
 Does files words Explain known old new status = ExplainsNetwork known old new status
 Does files words Deadlock known old new status = FindsDeadlock known old new status
-Does files words (Explore states form) known old new status = ExploresNetwork states form known old new status
 Does files words Label known old new status = LabelsNetwork known old new status
 Does files words (Draw after) known old new status = DrawsNetwork after known old new status
 Does files words (Step options account) known old new status = StepsNetwork options account known old new status

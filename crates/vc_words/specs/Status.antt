@@ -6,8 +6,6 @@ use Rattle.vc_plan.specs.declared.check_refused.CheckRefused.{CheckRefused}
 use Rattle.vc_plan.specs.declared.check_refused.CheckRefused.TheVariants as check
 use Rattle.vc_reader.specs.declared.refused.ReadRefused.{ReadRefused}
 use Rattle.vc_reader.specs.declared.refused.ReadRefused.TheVariants as read
-use Rattle.vc_explore_text.specs.declared.finding.Finding.{Finding}
-use Rattle.vc_explore_text.specs.declared.finding.Finding.TheVariants.{Free, MayStop, Open}
 use Rattle.vc_trace.specs.declared.replayed.Replayed.{Replayed}
 use Rattle.vc_trace.specs.declared.replayed.Replayed.TheVariants.{Ended, Refused, NoEvents}
 use Rattle.vc_text.specs.declared.fault.RunFault.{RunFault}
@@ -41,12 +39,6 @@ status_of_acceptance false = 2
 abbrev pub status_of_freedom : Bool → ℕ
 status_of_freedom true = 0
 status_of_freedom false = 1
-
--- 0 if no run stops before all processes have ended, 1 if one may, 3 if the bound was reached first
-abbrev pub status_of_finding : Finding → ℕ
-status_of_finding Free = 0
-status_of_finding MayStop = 1
-status_of_finding Open = 3
 
 -- 0 if every process has ended, 1 if the network is quiet, 3 for a limit, 4 when out of memory
 abbrev pub status_of_end : Close → ℕ

@@ -1,8 +1,8 @@
 //! What the words of a command line ask for.
-ghost use Rattle.std.specs.Prelude.{◌≡◌, ◌<◌, ◌≤◌, IfOk, IfErr, IfSome, option_map};
+ghost use Rattle.std.specs.Prelude.{◌≡◌, ◌≤◌, IfOk, IfErr, IfSome, option_map};
 ghost use Rattle.clap.specs.Words.{found_of, kind_of, rows_of, subcommand_rows_of};
 ghost use Rattle.clap.specs.Walk.{texts};
-ghost use Rattle.vc_words.specs.CommandLine.{account_of, has_flag, line_of as line_for, form_of, number_at, number_of, schedule_of, states_of, step_options_of, thread_options_of, faults, Asks, counted_of, progress_of, shows_progress, HasFound, IsFaultOf, IsInRange, IsToldAs, NamesEvents, NamesNetwork, text_in as text_of_argument};
+ghost use Rattle.vc_words.specs.CommandLine.{account_of, has_flag, line_of as line_for, number_at, number_of, schedule_of, step_options_of, thread_options_of, faults, Asks, counted_of, progress_of, shows_progress, HasFound, IsFaultOf, IsInRange, IsToldAs, NamesEvents, NamesNetwork, text_in as text_of_argument};
 
 use crate::account::Account;
 use crate::definition::definition;
@@ -20,12 +20,6 @@ const MOST: u64 = 1_000_000_000;
 
 /// How many events a run is allowed if the line says nothing.
 const USUAL_EVENTS: u64 = 1_000_000;
-
-/// The most states that an exploration may look at.
-const MOST_STATES: u64 = 10_000_000;
-
-/// How many states an exploration may look at if the line says nothing.
-const USUAL_STATES: u64 = 1_000_000;
 
 /// How many turns each thread is allowed if the line says nothing.
 const USUAL_TURNS: u64 = 10_000_000;
@@ -120,25 +114,6 @@ fn account(matches: &ArgMatches<'_>) -> Account
     }
 }
 
-/// How the matches say that what is found is written.
-fn form(matches: &ArgMatches<'_>) -> Form
-    ensures { result ≡ form_of (rows_of (found_of matches.now)) }
-{
-    if is_set(matches, "json") {
-        Form::Json
-    } else {
-        Form::Lines
-    }
-}
-
-/// The most states that the matches let an exploration look at: at least one.
-fn states(matches: &ArgMatches<'_>) -> u64
-    ensures states { result ≡ states_of (rows_of (found_of matches.now)) }
-    ensures range { (0 < result) × (result ≤ 10000000) }
-{
-    number(matches, "states", MOST_STATES, USUAL_STATES).max(1)
-}
-
 /// What the matches ask for.
 fn line_of(matches: &ArgMatches<'_>) -> Line
     ensures line { IfSome (subcommand_rows_of matches.now) (λ found. result ≡ line_for found) }
@@ -158,10 +133,6 @@ fn line_of(matches: &ArgMatches<'_>) -> Line
         },
         Some(("draw", inner)) => Line::Draw {
             after: number_if_any(inner, "after", MOST),
-        },
-        Some(("explore", inner)) => Line::Explore {
-            states: states(inner),
-            form: form(inner),
         },
         Some(("explain", _)) => Line::Explain,
         Some(("deadlock", _)) => Line::Deadlock,
@@ -261,10 +232,6 @@ fn counted(line: Line) -> Option<Progress>
         Line::Replay { .. } => Some(Progress {
             unit: Unit::Events,
             most: None,
-        }),
-        Line::Explore { states, .. } => Some(Progress {
-            unit: Unit::States,
-            most: Some(states),
         }),
         _ => None,
     }

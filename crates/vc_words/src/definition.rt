@@ -5,7 +5,7 @@ ghost use Rattle.clap.specs.Walk.{rule_of};
 ghost use Rattle.clap.specs.Simple.{shape_of};
 ghost use Rattle.clap.specs.declared.builder.command.Command.TheViews.{out-Command};
 ghost use Rattle.clap.specs.declared.builder.value_parser.ValueParser.TheVariants.{Unsigned};
-ghost use Rattle.vc_words.specs.CommandLine.{file_rule, flag_of, needed_of, option_of, optional_of, draw_shape, explore_shape, replay_shape, run_shape, step_shape, vcnet};
+ghost use Rattle.vc_words.specs.CommandLine.{file_rule, flag_of, needed_of, option_of, optional_of, draw_shape, replay_shape, run_shape, step_shape, vcnet};
 
 use clap::builder::ValueParser;
 use clap::{Arg, ArgAction, Command, value_parser};
@@ -44,22 +44,11 @@ Example: vcnet explain examples/squares.json";
 /// The end of the help of `deadlock`.
 const DEADLOCK_HELP: &str = "\
 Prints `free` if packets cannot come to wait for one another in a circle, or `cycle` with the links by which they might. It does not look at processes, \
-so a network with a cycle need not get stuck, and a free one may: `vcnet explore` looks at them.
+so a network with a cycle need not get stuck.
 
 Exit status: 0 free; 1 cycle; 2 refused; 4 no memory; 5 a bad command line; 6 a stream failed.
 
 Example: vcnet deadlock examples/ring.json";
-
-/// The end of the help of `explore`.
-const EXPLORE_HELP: &str = "\
-Looks at all schedules of the processes, one move at a time: a part goes on, a channel stops, a message passes. Prints `never stuck` if wherever \
-a schedule has come some part can go on or all processes have ended, or the moves of a shortest schedule after which neither is so, and what each \
-part waits for then. Then prints whether packets might wait for one another, as `deadlock` does, and how many states were kept. If nothing gets \
-stuck and the wires are free, the network cannot get stuck on this placement or on any other whose wires are free.
-
-Exit status: 0 never stuck, and free; 1 stuck, or cycle; 2 refused; 3 the bound was reached; 4 no memory; 5 a bad command line; 6 a stream failed.
-
-Example: vcnet explore examples/short/philosophers.json";
 
 /// The end of the help of `label`.
 const LABEL_HELP: &str = "\
@@ -129,9 +118,6 @@ const TRACE: &str =
 const STATS: &str =
     "Prints, after the traffic, how many events there were, by kind, actor, wire and channel";
 
-/// What `--json` asks for of an exploration.
-const FOUND_JSON: &str = "Prints what is found as JSON";
-
 /// What `--json` asks for.
 const JSON: &str =
     "Prints the traffic, and the counts of --stats, as JSON; --why adds nothing then";
@@ -148,13 +134,6 @@ fn counts<'a>() -> ValueParser<'a>
     ensures { result ≡ Unsigned 0 1000000000 }
 {
     value_parser!(u64).range(0..=1_000_000_000)
-}
-
-/// How many states an exploration may look at: from 1 to 10,000,000.
-fn state_counts<'a>() -> ValueParser<'a>
-    ensures { result ≡ Unsigned 1 10000000 }
-{
-    value_parser!(u64).range(1..=10_000_000)
 }
 
 /// An option `--name N` that may be left out, and which numbers it takes.
@@ -234,26 +213,6 @@ fn network_command<'a>(
         .about(about)
         .after_help(help)
         .arg(network_argument(alloc))
-}
-
-/// The subcommand that looks at all schedules.
-fn explore_definition<'a>(alloc: Global) -> Result<Command<'a>, AllocError>
-    ensures shape { IfOk result (λ c. shape_of c ≡ explore_shape) }
-    ensures local { IfOk result (λ c. (out-Command c).has_globals ≡ false) }
-{
-    let states = number_option(
-        alloc,
-        "states",
-        "Looks at no more than N states of the program (1 to 10,000,000)",
-        state_counts(),
-        "1000000",
-    );
-    let about = "Looks at all schedules and shows one that gets stuck";
-    network_command(alloc, "explore", about, EXPLORE_HELP)?
-        .arg(states)?
-        .arg(flag(alloc, "json", FOUND_JSON))?
-        .arg(flag(alloc, "progress", PROGRESS))?
-        .arg(flag(alloc, "no-progress", NO_PROGRESS))
 }
 
 /// The subcommand that draws the network.
@@ -378,7 +337,6 @@ pub(crate) fn definition<'a>(alloc: Global) -> Result<Command<'a>, AllocError>
         .subcommand(check)?
         .subcommand(explain)?
         .subcommand(deadlock)?
-        .subcommand(explore_definition(alloc)?)?
         .subcommand(draw_definition(alloc)?)?
         .subcommand(step_definition(alloc)?)?
         .subcommand(run_definition(alloc)?)?

@@ -1,6 +1,5 @@
 //! A command line.
 use crate::account::Account;
-use vc_stats::Form;
 use vc_text::{StepOptions, ThreadOptions};
 
 /// What the words ask for.
@@ -12,13 +11,6 @@ pub enum Line {
     Explain,
     /// To show a cycle of dependencies along which packets of the network might wait for one another, or that there is none.
     Deadlock,
-    /// To look at all schedules of the network's program, and to print whether one gets it stuck, with a shortest one that does.
-    Explore {
-        /// The most states of the program that are looked at: from 1 to 10,000,000, and 1,000,000 if the words say nothing.
-        states: u64,
-        /// How what is found is printed.
-        form: Form,
-    },
     /// To make the labelling of a network file that has none, and to print the whole file.
     Label,
     /// To write the network as Graphviz text.

@@ -7,8 +7,6 @@ pub enum Unit {
     Events,
     /// The turns of its first worker.
     Turns,
-    /// The states that it has looked at.
-    States,
 }
 
 /// What is shown of a run while it goes on: how many it has made of what is counted, how many it makes a second, and which part that is of

@@ -1,12 +1,12 @@
 //! From the words of the command line to the program's status.
-ghost use Rattle.std.specs.Prelude.{◌≡◌, ◌<◌, List, Some, None};
+ghost use Rattle.std.specs.Prelude.{◌≡◌, List, Some, None};
 ghost use Rattle.vc_text.specs.declared.fault.RunFault.TheVariants.{Memory as OutOfMemory};
 ghost use Rattle.clap.specs.Walk.{Text, texts};
 ghost use Rattle.vc_text.specs.OneNode.{ReadsAs};
 ghost use Rattle.vc_text.specs.ThreadsText.{WritesThreads};
-ghost use Rattle.vc_words.specs.CommandLine.{faults, IsFaultOf, IsInRange};
-ghost use Rattle.vc_words.specs.Program.{ChecksNetwork, DrawsNetwork, ExplainsNetwork, ExploresNetwork, FindsDeadlock, Does, DoesFile, IsThreadTextOf, LabelsNetwork, ReplaysFile, ReplaysNetwork, Runs, RunsNetwork, StepsNetwork, Tells, TellsFault, TellsLine, WritesStep, no_text_fault};
-ghost use Rattle.vc_words.specs.Status.{status_of_acceptance as status_for_acceptance, status_of_check as status_for_check, status_of_text as status_for_text, status_of_fault, status_of_finding as status_for_finding, status_of_freedom as status_for_freedom, status_of_end, status_of_replay as status_for_replay};
+ghost use Rattle.vc_words.specs.CommandLine.{faults, IsFaultOf};
+ghost use Rattle.vc_words.specs.Program.{ChecksNetwork, DrawsNetwork, ExplainsNetwork, FindsDeadlock, Does, DoesFile, IsThreadTextOf, LabelsNetwork, ReplaysFile, ReplaysNetwork, Runs, RunsNetwork, StepsNetwork, Tells, TellsFault, TellsLine, WritesStep, no_text_fault};
+ghost use Rattle.vc_words.specs.Status.{status_of_acceptance as status_for_acceptance, status_of_check as status_for_check, status_of_text as status_for_text, status_of_fault, status_of_freedom as status_for_freedom, status_of_end, status_of_replay as status_for_replay};
 
 use crate::account::Account;
 use crate::arguments::{command, events_of, network_of};
@@ -19,11 +19,10 @@ use std::thread::Threads;
 use vc_core::Close;
 use vc_draw::{run_draw, run_draw_after};
 use vc_explain::run_explain;
-use vc_explore_text::{Finding, run_explore};
 use vc_label_run::run_label;
 use vc_plan::CheckRefused;
 use vc_reader::ReadRefused;
-use vc_stats::{Form, json_net, json_step, stats_net, stats_step};
+use vc_stats::{json_net, json_step, stats_net, stats_step};
 use vc_text::{
     Meter, RunFault, StepOptions, ThreadOptions, run_check, run_deadlock, run_net_unlogged,
     run_step_unlogged, write_fault, write_text,
@@ -36,9 +35,6 @@ const DONE: u8 = 0;
 
 /// The status for a network whose dependencies have a cycle.
 const CYCLE: u8 = 1;
-
-/// The status for a program that a schedule gets stuck, or whose packets might wait for one another.
-const STUCK: u8 = 1;
 
 /// The status for a run that came to rest before all processes had ended.
 const QUIET: u8 = 1;
@@ -191,37 +187,6 @@ fn deadlock_by<R: Read, W: Write>(alloc: Global, reader: &mut R, writer: &mut W)
 {
     match run_deadlock(alloc, reader, writer) {
         Ok(free) => status_of_freedom(free),
-        Err(fault) => tell_fault(alloc, fault, writer),
-    }
-}
-
-/// The status of what is known of a network's runs.
-fn status_of_finding(finding: Finding) -> u8
-    ensures { result ≡ status_for_finding finding }
-{
-    match finding {
-        Finding::Free => DONE,
-        Finding::MayStop => STUCK,
-        Finding::Open => LIMIT,
-    }
-}
-
-/// Shows what all schedules of the program come to whose network the reader has, and whether packets might wait for one another. At most
-/// so many states of the program are looked at.
-fn explore_by<R: Read, W: Write>(
-    alloc: Global,
-    reader: &mut R,
-    writer: &mut W,
-    states: u64,
-    form: Form,
-    meter: &Meter,
-) -> u8
-    requires { 0 < states }
-    ensures { ExploresNetwork states form (R.remaining reader.old)
-        (W.contents writer.old) (W.contents writer.new) result }
-{
-    match run_explore(alloc, reader, writer, states as usize, form, meter) {
-        Ok(finding) => status_of_finding(finding),
         Err(fault) => tell_fault(alloc, fault, writer),
     }
 }
@@ -424,7 +389,6 @@ fn do_line<T: NamedFiles + Threads + Wait + Sync, R: Read, W: Write>(
     writer: &mut W,
     meter: &Meter,
 ) -> u8
-    requires { IsInRange line }
     ensures { Does (record { holds = T.holds rt.now; fails = T.fails rt.now })
         (texts words.now) line
         (R.remaining reader.old) (W.contents writer.old) (W.contents writer.new) result }
@@ -433,7 +397,6 @@ fn do_line<T: NamedFiles + Threads + Wait + Sync, R: Read, W: Write>(
         Line::Check => check_by(alloc, reader, writer),
         Line::Explain => explain_by(alloc, reader, writer),
         Line::Deadlock => deadlock_by(alloc, reader, writer),
-        Line::Explore { states, form } => explore_by(alloc, reader, writer, states, form, meter),
         Line::Label => label_by(alloc, reader, writer),
         Line::Draw { after } => draw_by(alloc, reader, writer, after, meter),
         Line::Step { options, account } => {
@@ -456,7 +419,6 @@ fn do_file<T: NamedFiles + Threads + Wait + Sync, W: Write>(
     writer: &mut W,
     meter: &Meter,
 ) -> u8
-    requires { IsInRange line }
     ensures { DoesFile (record { holds = T.holds rt.now; fails = T.fails rt.now })
         (texts words.now) line name.now
         (W.contents writer.old) (W.contents writer.new) result }

@@ -34,7 +34,6 @@ impl Display for Reading {
         let unit = match self.progress.unit {
             Unit::Events => "events",
             Unit::Turns => "turns",
-            Unit::States => "states",
         };
         write!(f, "{} {unit}, {}/s", self.done, self.rate())?;
         match self.progress.most {

@@ -19,12 +19,11 @@ returns-clause-app c =
     let one = c.in_ok-subcommand.ensures.shape c.in_ok-check.ensures.local ∙ ap₂ with_subcommand top_is check_is in
     let two = c.in_ok-subcommand-2.ensures.shape c.in_ok-explain.ensures.local ∙ ap₂ with_subcommand one explain_is in
     let three = c.in_ok-subcommand-3.ensures.shape c.in_ok-deadlock.ensures.local ∙ ap₂ with_subcommand two deadlock_is in
-    let four = c.in_ok-subcommand-4.ensures.shape c.in_ok-explore_definition.ensures.local ∙ ap₂ with_subcommand three c.in_ok-explore_definition.ensures.shape in
-    let five = c.in_ok-subcommand-5.ensures.shape c.in_ok-draw_definition.ensures.local ∙ ap₂ with_subcommand four c.in_ok-draw_definition.ensures.shape in
-    let six = c.in_ok-subcommand-6.ensures.shape c.in_ok-step_definition.ensures.local ∙ ap₂ with_subcommand five c.in_ok-step_definition.ensures.shape in
-    let seven = c.in_ok-subcommand-7.ensures.shape c.in_ok-run_definition.ensures.local ∙ ap₂ with_subcommand six c.in_ok-run_definition.ensures.shape in
-    let eight = c.in_ok-subcommand-8.ensures.shape c.in_ok-replay_definition.ensures.local ∙ ap₂ with_subcommand seven c.in_ok-replay_definition.ensures.shape in
-    IfOk-weaker c.subcommand-9.result _ _ (λ r h. h.shape c.in_ok-label.ensures.local ∙ ap₂ with_subcommand eight label_is) c.subcommand-9.ensures
+    let four = c.in_ok-subcommand-4.ensures.shape c.in_ok-draw_definition.ensures.local ∙ ap₂ with_subcommand three c.in_ok-draw_definition.ensures.shape in
+    let five = c.in_ok-subcommand-5.ensures.shape c.in_ok-step_definition.ensures.local ∙ ap₂ with_subcommand four c.in_ok-step_definition.ensures.shape in
+    let six = c.in_ok-subcommand-6.ensures.shape c.in_ok-run_definition.ensures.local ∙ ap₂ with_subcommand five c.in_ok-run_definition.ensures.shape in
+    let seven = c.in_ok-subcommand-7.ensures.shape c.in_ok-replay_definition.ensures.local ∙ ap₂ with_subcommand six c.in_ok-replay_definition.ensures.shape in
+    IfOk-weaker c.subcommand-8.result _ _ (λ r h. h.shape c.in_ok-label.ensures.local ∙ ap₂ with_subcommand seven label_is) c.subcommand-8.ensures
 
 pub returns-clause-local : goal.returns-clause-local
 returns-clause-local c =
@@ -33,9 +32,8 @@ returns-clause-local c =
     let one = neither _ _ _ c.in_ok-subcommand.ensures.globals top c.in_ok-check.ensures.local in
     let two = neither _ _ _ c.in_ok-subcommand-2.ensures.globals one c.in_ok-explain.ensures.local in
     let three = neither _ _ _ c.in_ok-subcommand-3.ensures.globals two c.in_ok-deadlock.ensures.local in
-    let four = neither _ _ _ c.in_ok-subcommand-4.ensures.globals three c.in_ok-explore_definition.ensures.local in
-    let five = neither _ _ _ c.in_ok-subcommand-5.ensures.globals four c.in_ok-draw_definition.ensures.local in
-    let six = neither _ _ _ c.in_ok-subcommand-6.ensures.globals five c.in_ok-step_definition.ensures.local in
-    let seven = neither _ _ _ c.in_ok-subcommand-7.ensures.globals six c.in_ok-run_definition.ensures.local in
-    let eight = neither _ _ _ c.in_ok-subcommand-8.ensures.globals seven c.in_ok-replay_definition.ensures.local in
-    IfOk-weaker c.subcommand-9.result _ _ (λ r h. neither _ _ _ h.globals eight c.in_ok-label.ensures.local) c.subcommand-9.ensures
+    let four = neither _ _ _ c.in_ok-subcommand-4.ensures.globals three c.in_ok-draw_definition.ensures.local in
+    let five = neither _ _ _ c.in_ok-subcommand-5.ensures.globals four c.in_ok-step_definition.ensures.local in
+    let six = neither _ _ _ c.in_ok-subcommand-6.ensures.globals five c.in_ok-run_definition.ensures.local in
+    let seven = neither _ _ _ c.in_ok-subcommand-7.ensures.globals six c.in_ok-replay_definition.ensures.local in
+    IfOk-weaker c.subcommand-8.result _ _ (λ r h. neither _ _ _ h.globals seven c.in_ok-label.ensures.local) c.subcommand-8.ensures
