@@ -15,6 +15,9 @@ use Rattle.clap.specs.declared.builder.value_parser.ValueParser.TheVariants.{Sig
 use Rattle.clap.specs.declared.error.kind.ErrorKind.{ErrorKind}
 use Rattle.clap.specs.declared.parser.matches.ArgMatches.{ArgMatches}
 use Rattle.clap.specs.declared.error.kind.ErrorKind.TheVariants.{DisplayHelp, DisplayVersion, OutOfMemory}
+use Rattle.vc_draw.specs.declared.state_options.StateOptions.{StateOptions}
+use Rattle.vc_draw.specs.declared.vlink_lines.VlinkLines.{VlinkLines}
+use Rattle.vc_draw.specs.declared.vlink_lines.VlinkLines.TheVariants.{Drawn, LeftOut}
 use Rattle.vc_text.specs.declared.schedule.Schedule.{Schedule}
 use Rattle.vc_text.specs.declared.schedule.Schedule.TheVariants.{InTurn, Random}
 use Rattle.vc_text.specs.declared.step_options.StepOptions.{StepOptions}
@@ -67,6 +70,9 @@ needed_of name = record (new_rule name) { long = Some name; value_names = 1; req
 abbrev pub events_option : Rule
 events_option = needed_of (codes "events")
 
+abbrev pub no_vlinks_flag : Rule
+no_vlinks_flag = flag_of (codes "no-vlinks")
+
 abbrev pub stats_flag : Rule
 stats_flag = flag_of (codes "stats")
 
@@ -106,7 +112,7 @@ abbrev pub label_shape : Shape
 label_shape = subcommand_of_rules (codes "label") []
 
 abbrev pub draw_shape : Shape
-draw_shape = subcommand_of_rules (codes "draw") (after_option ∷ [])
+draw_shape = subcommand_of_rules (codes "draw") (after_option ∷ schedule_option ∷ no_vlinks_flag ∷ [])
 
 -- whether the progress of a run is shown
 abbrev pub progress_flags : List Rule
@@ -154,11 +160,22 @@ has_flag id rows = option_map_or (λ text. bytes_eq text (codes "true")) (one_of
 abbrev pub schedule_of : ℕ → Schedule
 schedule_of n = if n == 0 then InTurn else Random n
 
+abbrev pub schedule_in : List Row → Schedule
+schedule_in rows = schedule_of (number_of (codes "schedule") 4294967295 0 rows)
+
+-- the state with which a network is drawn, if there is one, and whether its virtual links are drawn
+abbrev pub state_options_of : List Row → Option StateOptions
+state_options_of rows =
+    option_map (λ limit. record { limit = limit; schedule = schedule_in rows }) (number_at (codes "after") 1000000000 rows)
+
+abbrev pub vlink_lines_of : List Row → VlinkLines
+vlink_lines_of rows = if has_flag (codes "no-vlinks") rows then LeftOut else Drawn
+
 -- how the options of `step` and of `run` say that the network is run
 abbrev pub step_options_of : List Row → StepOptions
 step_options_of rows = record {
   limit = number_of (codes "limit") 1000000000 1000000 rows;
-  schedule = schedule_of (number_of (codes "schedule") 4294967295 0 rows);
+  schedule = schedule_in rows;
   is_together = has_flag (codes "together") rows;
   is_why = has_flag (codes "why") rows;
 }
@@ -183,7 +200,7 @@ line_of (name, rows) =
     if bytes_eq name (codes "step") then Step (step_options_of rows) (account_of rows)
     else (if bytes_eq name (codes "run") then Run (thread_options_of rows) (account_of rows)
     else (if bytes_eq name (codes "replay") then Replay (has_flag (codes "why") rows)
-    else (if bytes_eq name (codes "draw") then Draw (number_at (codes "after") 1000000000 rows)
+    else (if bytes_eq name (codes "draw") then Draw (state_options_of rows) (vlink_lines_of rows)
     else (if bytes_eq name (codes "explain") then Explain
     else (if bytes_eq name (codes "deadlock") then Deadlock else (if bytes_eq name (codes "label") then Label else Check))))))
 
@@ -251,8 +268,8 @@ IsInRange Check = ⊤
 IsInRange Explain = ⊤
 IsInRange Deadlock = ⊤
 IsInRange Label = ⊤
-IsInRange (Draw None) = ⊤
-IsInRange (Draw (Some after)) = after ≤ 1000000000
+IsInRange (Draw None vlinks) = ⊤
+IsInRange (Draw (Some options) vlinks) = options.limit ≤ 1000000000
 IsInRange (Step options account) = options.limit ≤ 1000000000
 IsInRange (Run options account) = options.turns ≤ 1000000000
 IsInRange (Replay is_why) = ⊤

@@ -2,6 +2,7 @@
 use Rattle.std.specs.Prelude.{◌≡◌, true, false, Some, None, List, [], ◌∷◌, codes}
 use Rattle.clap.specs.Walk.{Text}
 use Rattle.clap.specs.declared.error.kind.ErrorKind.TheVariants.{DisplayHelp, DisplayVersion, MissingRequiredArgument, UnknownArgument, ValueValidation}
+use Rattle.vc_draw.specs.declared.vlink_lines.VlinkLines.TheVariants.{Drawn, LeftOut}
 use Rattle.vc_text.specs.declared.schedule.Schedule.TheVariants.{InTurn, Random}
 use Rattle.vc_text.specs.declared.step_options.StepOptions.{StepOptions}
 use Rattle.vc_text.specs.declared.thread_options.ThreadOptions.{ThreadOptions}
@@ -26,8 +27,10 @@ pub record LinesAreRead : Type 0 where
   pub explain : Asks (line (codes "explain" ∷ [])) Explain
   pub deadlock : Asks (line (codes "deadlock" ∷ [])) Deadlock
   pub label : Asks (line (codes "label" ∷ [])) Label
-  pub draw : Asks (line (codes "draw" ∷ [])) (Draw None)
-  pub after : Asks (line (codes "draw" ∷ codes "--after" ∷ codes "9" ∷ [])) (Draw (Some 9))
+  pub draw : Asks (line (codes "draw" ∷ [])) (Draw None Drawn)
+  pub after : Asks (line (codes "draw" ∷ codes "--after" ∷ codes "9" ∷ [])) (Draw (Some (record { limit = 9; schedule = InTurn })) Drawn)
+  pub drawn_by_schedule : Asks (line (codes "draw" ∷ codes "--after=9" ∷ codes "--schedule=5" ∷ [])) (Draw (Some (record { limit = 9; schedule = Random 5 })) Drawn)
+  pub no_vlinks : Asks (line (codes "draw" ∷ codes "--no-vlinks" ∷ [])) (Draw None LeftOut)
   pub step : Asks (line (codes "step" ∷ [])) (Step usual Traffic)
   pub limit : Asks (line (codes "step" ∷ codes "--limit" ∷ codes "7" ∷ [])) (Step (record usual { limit = 7 }) Traffic)
   pub together : Asks (line (codes "step" ∷ codes "--together" ∷ [])) (Step (record usual { is_together = true }) Traffic)

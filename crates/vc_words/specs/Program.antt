@@ -10,7 +10,6 @@ use Rattle.vc_core.specs.declared.close.Close.{Close}
 use Rattle.vc_text.specs.OneNode.{ReadsAs}
 use Rattle.vc_plan.specs.declared.plan.Plan.{Plan as Network}
 use Rattle.vc_text.specs.declared.schedule.Schedule.{Schedule}
-use Rattle.vc_text.specs.declared.schedule.Schedule.TheVariants.{InTurn}
 use Rattle.vc_text.specs.RunText.{RunText, WritesRunBy}
 use Rattle.vc_text.specs.Streams.{Writes}
 use Rattle.vc_text.specs.Tail.{IsTail}
@@ -21,6 +20,8 @@ use Rattle.vc_threads.specs.declared.report.Ending.{Ending}
 use Rattle.vc_text.specs.declared.fault.RunFault.{RunFault}
 use Rattle.vc_text.specs.declared.fault.RunFault.TheVariants.{Memory, Read}
 use Rattle.vc_draw.specs.State.{IsStateDrawing}
+use Rattle.vc_draw.specs.declared.state_options.StateOptions.{StateOptions}
+use Rattle.vc_draw.specs.declared.vlink_lines.VlinkLines.{VlinkLines}
 use Rattle.vc_stats.specs.Texts.{IsEventsText, IsStatsText, IsTrafficJson}
 use Rattle.vc_trace.specs.Replay.{Replays}
 use Rattle.vc_trace.specs.TraceText.{IsTracedText, WritesTraceBy}
@@ -76,13 +77,13 @@ FindsDeadlock known old new status =
 abbrev pub LabelsNetwork : Option (List ℕ) → Option (List ℕ) → Option (List ℕ) → ℕ → Type 0
 LabelsNetwork = WritesOrTells Labels
 
--- it is written as Graphviz text: as its plan says, or with its state after at most so many events, or a fault of it is told
-abbrev pub DrawsNetwork : Option ℕ → Option (List ℕ) → Option (List ℕ) → Option (List ℕ) → ℕ → Type 0
-DrawsNetwork None known old new status = WritesOrTells WritesGraph known old new status
-DrawsNetwork (Some after) known old new status =
-    let Draws = WritesRunBy IsStateDrawing (ReadsAccepted known) in
-    ((close : Close) × Draws old new InTurn after (Ok close) × (status ≡ 0))
-    ⊎ ((fault : RunFault) × (mid : Option (List ℕ)) × Draws old mid InTurn after (Err fault) × TellsFault mid new fault status)
+-- it is written as Graphviz text: as its plan says, or with its state after a run, or a fault of it is told
+abbrev pub DrawsNetwork : Option StateOptions → VlinkLines → Option (List ℕ) → Option (List ℕ) → Option (List ℕ) → ℕ → Type 0
+DrawsNetwork None vlinks known old new status = WritesOrTells (WritesGraph vlinks) known old new status
+DrawsNetwork (Some options) vlinks known old new status =
+    let Draws = WritesRunBy (IsStateDrawing vlinks) (ReadsAccepted known) in
+    ((close : Close) × Draws old new options.schedule options.limit (Ok close) × (status ≡ 0))
+    ⊎ ((fault : RunFault) × (mid : Option (List ℕ)) × Draws old mid options.schedule options.limit (Err fault) × TellsFault mid new fault status)
 
 -- the text of a run: its traffic, its events and then its traffic, its traffic and then its counts, or its traffic as JSON
 abbrev pub IsTextOf : Account → (is_why : Bool) → RunText
@@ -154,7 +155,7 @@ Does files words Check known old new status = ChecksNetwork known old new status
 Does files words Explain known old new status = ExplainsNetwork known old new status
 Does files words Deadlock known old new status = FindsDeadlock known old new status
 Does files words Label known old new status = LabelsNetwork known old new status
-Does files words (Draw after) known old new status = DrawsNetwork after known old new status
+Does files words (Draw state vlinks) known old new status = DrawsNetwork state vlinks known old new status
 Does files words (Step options account) known old new status = StepsNetwork options account known old new status
 Does files words (Run options account) known old new status = RunsNetwork options account known old new status
 Does files words (Replay is_why) known old new status = ReplaysNetwork files words is_why known old new status

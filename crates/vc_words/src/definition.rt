@@ -62,13 +62,14 @@ Example: vcnet label examples/short/hello.json";
 
 /// The end of the help of `draw`.
 const DRAW_HELP: &str = "\
-Prints the network as text for Graphviz's `dot`, which makes a drawing of it: nodes as boxes, switches as ellipses, a line for each wire, \
-a dashed line for each virtual link with its channels, and a dotted line for each channel inside a node. With --after the labels show the state \
-after N events of `step`: who waits for what, the tokens on the wires, and where the packets are.
+Prints the network as text for Graphviz's `dot` or `neato`, which make a drawing of it: nodes as boxes, switches as ellipses, a line for each \
+wire, a dashed gray line for each virtual link with its channels, and a dotted line for each channel inside a node. If packets may come to wait \
+for one another in a circle, its wires are red. With --after the labels show the state after N events of `step`: who waits for what, the tokens \
+on the wires, and where the packets are; and the wires without credit are red.
 
 Exit status: 0 drawn; 2 refused; 4 no memory; 5 a bad command line; 6 a stream failed.
 
-Example: vcnet draw examples/ring.json | dot -Tsvg > ring.svg";
+Example: vcnet draw examples/ring.json | neato -Tsvg > ring.svg";
 
 /// The end of the help of `replay`.
 const REPLAY_HELP: &str = "\
@@ -109,6 +110,17 @@ const NETWORK: &str = "The network file; standard input if it is left out";
 
 /// What `--why` asks for.
 const WHY: &str = "Prints, after the traffic, who waits for what and where the packets are";
+
+/// What `--schedule` of `step` asks for.
+const SCHEDULE: &str =
+    "Draws each event at random, the same for the same N, or makes them in turn if N is 0 (0 to 4,294,967,295)";
+
+/// What `--schedule` of `draw` asks for.
+const DRAW_SCHEDULE: &str =
+    "Makes the events of --after as `step --schedule N` does (0 to 4,294,967,295)";
+
+/// What `--no-vlinks` asks for.
+const NO_VLINKS: &str = "Leaves out the virtual links";
 
 /// What `--trace` asks for.
 const TRACE: &str =
@@ -226,8 +238,12 @@ fn draw_definition<'a>(alloc: Global) -> Result<Command<'a>, AllocError>
         "Draws the network with its state after N events (0 to 1,000,000,000)",
         counts(),
     );
+    let schedule = number_option(alloc, "schedule", DRAW_SCHEDULE, value_parser!(u32), "0");
     let about = "Writes the network as Graphviz text";
-    network_command(alloc, "draw", about, DRAW_HELP)?.arg(after)
+    network_command(alloc, "draw", about, DRAW_HELP)?
+        .arg(after)?
+        .arg(schedule)?
+        .arg(flag(alloc, "no-vlinks", NO_VLINKS))
 }
 
 /// The subcommand that makes the events of a file.
@@ -260,13 +276,7 @@ fn step_definition<'a>(alloc: Global) -> Result<Command<'a>, AllocError>
         counts(),
         "1000000",
     );
-    let schedule = number_option(
-        alloc,
-        "schedule",
-        "Draws each event at random, the same for the same N, or makes them in turn if N is 0 (0 to 4,294,967,295)",
-        value_parser!(u32),
-        "0",
-    );
+    let schedule = number_option(alloc, "schedule", SCHEDULE, value_parser!(u32), "0");
     let together = flag(
         alloc,
         "together",

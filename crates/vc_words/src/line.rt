@@ -1,5 +1,6 @@
 //! A command line.
 use crate::account::Account;
+use vc_draw::{StateOptions, VlinkLines};
 use vc_text::{StepOptions, ThreadOptions};
 
 /// What the words ask for.
@@ -15,9 +16,10 @@ pub enum Line {
     Label,
     /// To write the network as Graphviz text.
     Draw {
-        /// The most events that are made before it is drawn, with the state after them: at most 1,000,000,000. None draws the network
-        /// alone.
-        after: Option<u64>,
+        /// The run after which it is drawn, with its state: of at most 1,000,000,000 events. None draws the network alone.
+        state: Option<StateOptions>,
+        /// Whether its virtual links are drawn.
+        vlinks: VlinkLines,
     },
     /// To run the network event by event, and to print its traffic.
     Step {

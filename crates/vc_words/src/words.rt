@@ -17,7 +17,7 @@ use std::io::{Read, Write};
 use std::sync::Wait;
 use std::thread::Threads;
 use vc_core::Close;
-use vc_draw::{run_draw, run_draw_after};
+use vc_draw::{StateOptions, VlinkLines, run_draw, run_draw_after};
 use vc_explain::run_explain;
 use vc_label_run::run_label;
 use vc_plan::CheckRefused;
@@ -203,47 +203,54 @@ fn label_by<R: Read, W: Write>(alloc: Global, reader: &mut R, writer: &mut W) ->
 }
 
 /// Writes the network that the reader has as Graphviz text.
-fn draw_plan_by<R: Read, W: Write>(alloc: Global, reader: &mut R, writer: &mut W) -> u8
-    ensures { DrawsNetwork None (R.remaining reader.old)
+fn draw_plan_by<R: Read, W: Write>(
+    alloc: Global,
+    reader: &mut R,
+    writer: &mut W,
+    vlinks: VlinkLines,
+) -> u8
+    ensures { DrawsNetwork None vlinks (R.remaining reader.old)
         (W.contents writer.old) (W.contents writer.new) result }
 {
-    match run_draw(alloc, reader, writer) {
+    match run_draw(alloc, reader, writer, vlinks) {
         Ok(()) => DONE,
         Err(fault) => tell_fault(alloc, fault, writer),
     }
 }
 
-/// Writes the network that the reader has as Graphviz text, with its state after at most so many events.
+/// Writes the network that the reader has as Graphviz text, with its state after a run.
 fn draw_state_by<R: Read, W: Write>(
     alloc: Global,
     reader: &mut R,
     writer: &mut W,
-    after: u64,
+    options: StateOptions,
+    vlinks: VlinkLines,
     meter: &Meter,
 ) -> u8
-    ensures { DrawsNetwork (Some after) (R.remaining reader.old)
+    ensures { DrawsNetwork (Some options) vlinks (R.remaining reader.old)
         (W.contents writer.old) (W.contents writer.new) result }
 {
-    match run_draw_after(alloc, reader, writer, after, meter) {
+    match run_draw_after(alloc, reader, writer, options, vlinks, meter) {
         Ok(_) => DONE,
         Err(fault) => tell_fault(alloc, fault, writer),
     }
 }
 
-/// Writes the network that the reader has as Graphviz text, with its state after so many events or without.
+/// Writes the network that the reader has as Graphviz text, with its state after a run or without.
 fn draw_by<R: Read, W: Write>(
     alloc: Global,
     reader: &mut R,
     writer: &mut W,
-    after: Option<u64>,
+    state: Option<StateOptions>,
+    vlinks: VlinkLines,
     meter: &Meter,
 ) -> u8
-    ensures { DrawsNetwork after (R.remaining reader.old)
+    ensures { DrawsNetwork state vlinks (R.remaining reader.old)
         (W.contents writer.old) (W.contents writer.new) result }
 {
-    match after {
-        Some(after) => draw_state_by(alloc, reader, writer, after, meter),
-        None => draw_plan_by(alloc, reader, writer),
+    match state {
+        Some(options) => draw_state_by(alloc, reader, writer, options, vlinks, meter),
+        None => draw_plan_by(alloc, reader, writer, vlinks),
     }
 }
 
@@ -398,7 +405,7 @@ fn do_line<T: NamedFiles + Threads + Wait + Sync, R: Read, W: Write>(
         Line::Explain => explain_by(alloc, reader, writer),
         Line::Deadlock => deadlock_by(alloc, reader, writer),
         Line::Label => label_by(alloc, reader, writer),
-        Line::Draw { after } => draw_by(alloc, reader, writer, after, meter),
+        Line::Draw { state, vlinks } => draw_by(alloc, reader, writer, state, vlinks, meter),
         Line::Step { options, account } => {
             step_by(alloc, reader, writer, options, account, meter)
         }
