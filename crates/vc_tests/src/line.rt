@@ -26,8 +26,15 @@ const USUAL_THREADS: ThreadOptions = ThreadOptions {
 
 /// Command lines, and what they ask for, or the status of one that asks for nothing.
 const LINES: &[(&[&str], Result<Line, u8>)] = &[
-    (&["vcnet", "check"], Ok(Line::Check)),
-    (&["vcnet", "deadlock"], Ok(Line::Deadlock)),
+    (&["vcnet", "check"], Ok(Line::Check { form: Form::Lines })),
+    (
+        &["vcnet", "label", "--json"],
+        Ok(Line::Label { form: Form::Json }),
+    ),
+    (
+        &["vcnet", "deadlock"],
+        Ok(Line::Deadlock { form: Form::Lines }),
+    ),
     (
         &["vcnet", "draw"],
         Ok(Line::Draw {

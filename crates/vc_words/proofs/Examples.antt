@@ -9,6 +9,7 @@ lines = record {
   check = (refl, refl);
   explain = (refl, refl);
   deadlock = (refl, refl);
+  json = (refl, refl);
   label = (refl, refl);
   draw = (refl, refl);
   after = (refl, refl);

@@ -22,6 +22,7 @@ use Rattle.vc_text.specs.declared.schedule.Schedule.{Schedule}
 use Rattle.vc_text.specs.declared.schedule.Schedule.TheVariants.{InTurn, Random}
 use Rattle.vc_text.specs.declared.step_options.StepOptions.{StepOptions}
 use Rattle.vc_text.specs.declared.thread_options.ThreadOptions.{ThreadOptions}
+use Rattle.vc_stats.specs.declared.form.Form.{Form}
 use Rattle.vc_stats.specs.declared.form.Form.TheVariants.{Lines, Json as FormJson}
 use Rattle.vc_words.specs.declared.account.Account.{Account}
 use Rattle.vc_words.specs.declared.account.Account.TheVariants.{Traffic, Events, Counts, Json}
@@ -100,16 +101,16 @@ abbrev pub subcommand_of_rules : Text → List Rule → Shape
 subcommand_of_rules name options = record (new_shape name) { rules = file_rule ∷ options }
 
 abbrev pub check_shape : Shape
-check_shape = subcommand_of_rules (codes "check") []
+check_shape = subcommand_of_rules (codes "check") (json_flag ∷ [])
 
 abbrev pub explain_shape : Shape
 explain_shape = subcommand_of_rules (codes "explain") []
 
 abbrev pub deadlock_shape : Shape
-deadlock_shape = subcommand_of_rules (codes "deadlock") []
+deadlock_shape = subcommand_of_rules (codes "deadlock") (json_flag ∷ [])
 
 abbrev pub label_shape : Shape
-label_shape = subcommand_of_rules (codes "label") []
+label_shape = subcommand_of_rules (codes "label") (json_flag ∷ [])
 
 abbrev pub draw_shape : Shape
 draw_shape = subcommand_of_rules (codes "draw") (after_option ∷ schedule_option ∷ no_vlinks_flag ∷ [])
@@ -187,11 +188,15 @@ thread_options_of rows = record {
   is_why = has_flag (codes "why") rows;
 }
 
+-- lines, or JSON
+abbrev pub form_of : List Row → Form
+form_of rows = if has_flag (codes "json") rows then FormJson else Lines
+
 -- what is written of a run: if the events are asked for, these and the traffic alone
 abbrev pub account_of : List Row → Account
 account_of rows =
     if has_flag (codes "trace") rows then Events
-    else (if has_flag (codes "stats") rows then Counts (if has_flag (codes "json") rows then FormJson else Lines)
+    else (if has_flag (codes "stats") rows then Counts (form_of rows)
     else (if has_flag (codes "json") rows then Json else Traffic))
 
 -- what a subcommand and what was found of its options ask for
@@ -202,7 +207,7 @@ line_of (name, rows) =
     else (if bytes_eq name (codes "replay") then Replay (has_flag (codes "why") rows)
     else (if bytes_eq name (codes "draw") then Draw (state_options_of rows) (vlink_lines_of rows)
     else (if bytes_eq name (codes "explain") then Explain
-    else (if bytes_eq name (codes "deadlock") then Deadlock else (if bytes_eq name (codes "label") then Label else Check))))))
+    else (if bytes_eq name (codes "deadlock") then Deadlock (form_of rows) else (if bytes_eq name (codes "label") then Label (form_of rows) else Check (form_of rows)))))))
 
 -- the kinds of fault that the words have: none if they are a command line
 abbrev pub faults : List Text → Kinds
@@ -264,10 +269,10 @@ IsFaultOf kinds (Bad text status) = (kind : ErrorKind) × IsAmong kind kinds × 
 
 -- the numbers of a line are in their ranges
 abbrev pub IsInRange : Line → Type 0
-IsInRange Check = ⊤
+IsInRange (Check form) = ⊤
 IsInRange Explain = ⊤
-IsInRange Deadlock = ⊤
-IsInRange Label = ⊤
+IsInRange (Deadlock form) = ⊤
+IsInRange (Label form) = ⊤
 IsInRange (Draw None vlinks) = ⊤
 IsInRange (Draw (Some options) vlinks) = options.limit ≤ 1000000000
 IsInRange (Step options account) = options.limit ≤ 1000000000

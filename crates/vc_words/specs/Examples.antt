@@ -7,7 +7,7 @@ use Rattle.vc_text.specs.declared.schedule.Schedule.TheVariants.{InTurn, Random}
 use Rattle.vc_text.specs.declared.step_options.StepOptions.{StepOptions}
 use Rattle.vc_text.specs.declared.thread_options.ThreadOptions.{ThreadOptions}
 use Rattle.vc_words.specs.CommandLine.{Asks, NamesNetwork, faults}
-use Rattle.vc_stats.specs.declared.form.Form.TheVariants.{Lines}
+use Rattle.vc_stats.specs.declared.form.Form.TheVariants.{Lines, Json as FormJson}
 use Rattle.vc_words.specs.declared.account.Account.TheVariants.{Traffic, Events, Counts}
 use Rattle.vc_words.specs.declared.line.Line.TheVariants.{Check, Explain, Deadlock, Label, Draw, Step, Run, Replay}
 
@@ -23,10 +23,11 @@ abbrev usual_threads : ThreadOptions
 usual_threads = record { turns = 10000000; seed = 0; is_why = false }
 
 pub record LinesAreRead : Type 0 where
-  pub check : Asks (line (codes "check" ∷ [])) Check
+  pub check : Asks (line (codes "check" ∷ [])) (Check Lines)
   pub explain : Asks (line (codes "explain" ∷ [])) Explain
-  pub deadlock : Asks (line (codes "deadlock" ∷ [])) Deadlock
-  pub label : Asks (line (codes "label" ∷ [])) Label
+  pub deadlock : Asks (line (codes "deadlock" ∷ [])) (Deadlock Lines)
+  pub json : Asks (line (codes "check" ∷ codes "--json" ∷ [])) (Check FormJson)
+  pub label : Asks (line (codes "label" ∷ [])) (Label Lines)
   pub draw : Asks (line (codes "draw" ∷ [])) (Draw None Drawn)
   pub after : Asks (line (codes "draw" ∷ codes "--after" ∷ codes "9" ∷ [])) (Draw (Some (record { limit = 9; schedule = InTurn })) Drawn)
   pub drawn_by_schedule : Asks (line (codes "draw" ∷ codes "--after=9" ∷ codes "--schedule=5" ∷ [])) (Draw (Some (record { limit = 9; schedule = Random 5 })) Drawn)
@@ -41,7 +42,7 @@ pub record LinesAreRead : Type 0 where
   pub run_trace : Asks (line (codes "run" ∷ codes "--trace" ∷ [])) (Run usual_threads Events)
   pub stats : Asks (line (codes "step" ∷ codes "--stats" ∷ [])) (Step usual (Counts Lines))
   pub replay : Asks (line (codes "replay" ∷ codes "--events" ∷ codes "a" ∷ [])) (Replay false)
-  pub file : Asks (line (codes "check" ∷ codes "a.json" ∷ [])) Check
+  pub file : Asks (line (codes "check" ∷ codes "a.json" ∷ [])) (Check Lines)
   pub named : NamesNetwork (line (codes "step" ∷ codes "a.json" ∷ codes "--why" ∷ [])) (Some (codes "a.json"))
   pub unnamed : NamesNetwork (line (codes "step" ∷ codes "--why" ∷ [])) None
   pub two_files : faults (line (codes "check" ∷ codes "a.json" ∷ codes "b.json" ∷ [])) ≡ UnknownArgument ∷ []

@@ -2,7 +2,7 @@
 ghost use Rattle.std.specs.Prelude.{◌≡◌, ◌≤◌, IfOk, IfErr, IfSome, option_map};
 ghost use Rattle.clap.specs.Words.{found_of, kind_of, rows_of, subcommand_rows_of};
 ghost use Rattle.clap.specs.Walk.{texts};
-ghost use Rattle.vc_words.specs.CommandLine.{account_of, has_flag, line_of as line_for, number_at, number_of, schedule_in as schedule_named, schedule_of, state_options_of, step_options_of, vlink_lines_of, thread_options_of, faults, Asks, counted_of, progress_of, shows_progress, HasFound, IsFaultOf, IsInRange, IsToldAs, NamesEvents, NamesNetwork, text_in as text_of_argument};
+ghost use Rattle.vc_words.specs.CommandLine.{account_of, has_flag, line_of as line_for, number_at, number_of, schedule_in as schedule_named, schedule_of, state_options_of, step_options_of, vlink_lines_of, thread_options_of, faults, form_of, Asks, counted_of, progress_of, shows_progress, HasFound, IsFaultOf, IsInRange, IsToldAs, NamesEvents, NamesNetwork, text_in as text_of_argument};
 
 use crate::account::Account;
 use crate::definition::definition;
@@ -132,6 +132,17 @@ fn thread_options(matches: &ArgMatches<'_>) -> ThreadOptions
     }
 }
 
+/// Whether the matches ask for lines or for JSON.
+fn form(matches: &ArgMatches<'_>) -> Form
+    ensures { result ≡ form_of (rows_of (found_of matches.now)) }
+{
+    if is_set(matches, "json") {
+        Form::Json
+    } else {
+        Form::Lines
+    }
+}
+
 /// What the matches of `step` or `run` say is written of the run. Where they ask for the events, these and the traffic alone.
 fn account(matches: &ArgMatches<'_>) -> Account
     ensures { result ≡ account_of (rows_of (found_of matches.now)) }
@@ -139,11 +150,10 @@ fn account(matches: &ArgMatches<'_>) -> Account
     if is_set(matches, "trace") {
         return Account::Events;
     }
-    match (is_set(matches, "stats"), is_set(matches, "json")) {
-        (true, true) => Account::Counts(Form::Json),
-        (true, false) => Account::Counts(Form::Lines),
-        (false, true) => Account::Json,
-        (false, false) => Account::Traffic,
+    match (is_set(matches, "stats"), form(matches)) {
+        (true, form) => Account::Counts(form),
+        (false, Form::Json) => Account::Json,
+        (false, Form::Lines) => Account::Traffic,
     }
 }
 
@@ -169,9 +179,10 @@ fn line_of(matches: &ArgMatches<'_>) -> Line
             vlinks: vlink_lines(inner),
         },
         Some(("explain", _)) => Line::Explain,
-        Some(("deadlock", _)) => Line::Deadlock,
-        Some(("label", _)) => Line::Label,
-        _ => Line::Check,
+        Some(("deadlock", inner)) => Line::Deadlock { form: form(inner) },
+        Some(("label", inner)) => Line::Label { form: form(inner) },
+        Some((_, inner)) => Line::Check { form: form(inner) },
+        None => Line::Check { form: Form::Lines },
     }
 }
 

@@ -1,11 +1,11 @@
 //! What `clap` is told of the command line.
-ghost use Rattle.std.specs.Prelude.{◌≡◌, false, IfOk};
+ghost use Rattle.std.specs.Prelude.{◌≡◌, false, IfOk, [], ◌∷◌};
 ghost use Rattle.clap.specs.Words.{app_of, new_app, with_rule};
 ghost use Rattle.clap.specs.Walk.{rule_of};
 ghost use Rattle.clap.specs.Simple.{shape_of};
 ghost use Rattle.clap.specs.declared.builder.command.Command.TheViews.{out-Command};
 ghost use Rattle.clap.specs.declared.builder.value_parser.ValueParser.TheVariants.{Unsigned};
-ghost use Rattle.vc_words.specs.CommandLine.{file_rule, flag_of, needed_of, option_of, optional_of, draw_shape, replay_shape, run_shape, step_shape, vcnet};
+ghost use Rattle.vc_words.specs.CommandLine.{file_rule, flag_of, json_flag, subcommand_of_rules, needed_of, option_of, optional_of, draw_shape, replay_shape, run_shape, step_shape, vcnet};
 
 use clap::builder::ValueParser;
 use clap::{Arg, ArgAction, Command, value_parser};
@@ -134,6 +134,9 @@ const STATS: &str =
 const JSON: &str =
     "Prints the traffic, and the counts of --stats, as JSON; --why adds nothing then";
 
+/// What `--json` asks for of a command that answers in a line.
+const ANSWER_JSON: &str = "Prints the answer, or the refusal, as JSON";
+
 /// What `--progress` asks for.
 const PROGRESS: &str =
     "Shows on standard error how far the run is while it goes on, as on a terminal without it";
@@ -225,6 +228,20 @@ fn network_command<'a>(
         .about(about)
         .after_help(help)
         .arg(network_argument(alloc))
+}
+
+/// A subcommand that answers in lines or in JSON, with its help.
+fn json_command<'a>(
+    alloc: Global,
+    name: &'a str,
+    about: &'a str,
+    help: &'a str,
+) -> Result<Command<'a>, AllocError>
+    ensures shape { IfOk result
+        (λ c. shape_of c ≡ subcommand_of_rules name.entry.now (json_flag ∷ [])) }
+    ensures local { IfOk result (λ c. (out-Command c).has_globals ≡ false) }
+{
+    network_command(alloc, name, about, help)?.arg(flag(alloc, "json", ANSWER_JSON))
 }
 
 /// The subcommand that draws the network.
@@ -332,13 +349,13 @@ pub(crate) fn definition<'a>(alloc: Global) -> Result<Command<'a>, AllocError>
     ensures local { IfOk result (λ c. (out-Command c).has_globals ≡ false) }
 {
     let check_about = "Checks the network";
-    let check = network_command(alloc, "check", check_about, CHECK_HELP)?;
+    let check = json_command(alloc, "check", check_about, CHECK_HELP)?;
     let explain_about = "Says what is wrong in the network, and where";
     let explain = network_command(alloc, "explain", explain_about, EXPLAIN_HELP)?;
     let deadlock_about = "Shows a cycle along which packets of the network might wait";
-    let deadlock = network_command(alloc, "deadlock", deadlock_about, DEADLOCK_HELP)?;
+    let deadlock = json_command(alloc, "deadlock", deadlock_about, DEADLOCK_HELP)?;
     let label_about = "Makes the labelling of the network and prints the whole file";
-    let label = network_command(alloc, "label", label_about, LABEL_HELP)?;
+    let label = json_command(alloc, "label", label_about, LABEL_HELP)?;
     Command::new(alloc, "vcnet")
         .about("The virtual channel network of the T9000 and the C104, with occam processes")
         .after_help(PROGRAM_HELP)

@@ -1,19 +1,29 @@
 //! A command line.
 use crate::account::Account;
 use vc_draw::{StateOptions, VlinkLines};
+use vc_stats::Form;
 use vc_text::{StepOptions, ThreadOptions};
 
 /// What the words ask for.
 #[derive(Clone, Copy, Debug, PartialEq, Eq, Drop)]
 pub enum Line {
     /// To check the network, and to print how large it is.
-    Check,
+    Check {
+        /// The form of the answer.
+        form: Form,
+    },
     /// To tell what is wrong in the network file and where, or what the network has.
     Explain,
     /// To show a cycle of dependencies along which packets of the network might wait for one another, or that there is none.
-    Deadlock,
+    Deadlock {
+        /// The form of the answer.
+        form: Form,
+    },
     /// To make the labelling of a network file that has none, and to print the whole file.
-    Label,
+    Label {
+        /// The form of a refusal.
+        form: Form,
+    },
     /// To write the network as Graphviz text.
     Draw {
         /// The run after which it is drawn, with its state: of at most 1,000,000,000 events. None draws the network alone.
