@@ -6,7 +6,7 @@
 - a sentence of theirs with over 40 words;
 - a name between backticks (a function, a type, a clause, an edit) that no source, script, example or file has; words in capitals stand for
   something else, and tools/lint/format.py holds docs/FORMAT.md, REFUSALS.md and COMMANDS.md;
-- a piece of Rattle in docs/CALLING.md that does not stand so in crates/vc_uses;
+- a piece of code in docs/CALLING.md that is not the whole file of crates/vc_uses that is named before it, or a source there that it lacks;
 - a script of bench/ or tools/ that does not say with which kit it was made, as README.md names it.
 
 Made with rattle-kit-13f, logic dac8208d650f15bf.
@@ -21,7 +21,7 @@ DOCUMENTS = ["README.md", "bench/README.md", "tools/README.md", *sorted(os.path.
 SOURCES = [os.path.relpath(it, ROOT) for it in glob.glob(f"{ROOT}/crates/*/*/**/*.*t", recursive=True)]
 WORDS = 40
 # Names of the toolchain, of the system, and of what is yet to come.
-OTHERS = set("plant proves lemma grep Display BinaryHeap matches_of explain stats".split())
+OTHERS = set("plant proves lemma holes grep Display BinaryHeap matches_of explain stats".split())
 
 
 def text_of(path):
@@ -55,10 +55,16 @@ def long_sentences(path, text):
 
 
 def strange_code(path, text):
-    sources = [text_of(os.path.relpath(it, ROOT)) for it in glob.glob(f"{ROOT}/crates/vc_uses/src/*.rt")]
-    for piece in re.findall(r"```rust\n(.*?)```", text, re.S):
-        if not any(piece.strip() in it for it in sources):
-            yield f"{path}: not in vc_uses: {piece.strip()[:70]}.."
+    """Pieces that a client can copy are whole files, which the gate proves where they are."""
+    shown = re.findall(r"`(crates/vc_uses/[\w./]+)`:\n\n```\w+\n(.*?)```", text, re.S)
+    for name, piece in shown:
+        if not os.path.exists(f"{ROOT}/{name}") or text_of(name) != piece:
+            yield f"{path}: this is not {name}"
+    if len(shown) != len(re.findall(r"```(?:rust|antt)\n", text)):
+        yield f"{path}: a piece of code without the name of its file"
+    sources = {os.path.relpath(it, ROOT) for it in glob.glob(f"{ROOT}/crates/vc_uses/src/*.rt")}
+    for name in sorted(sources - {"crates/vc_uses/src/lib.rt", *(it for it, _ in shown)}):
+        yield f"{path}: {name} is not shown"
 
 
 def names():

@@ -61,13 +61,15 @@ def options(function, source):
 def commands(source):
     """The program and then each subcommand, as --help lists them: its name, what it is about, the paragraphs after that, its options."""
     named, found = constants(source), {}
-    for function in re.split(r"\n(?=(?:pub\(crate\) )?fn )", source):
+    functions = re.split(r"\n(?=(?:pub\(crate\) )?fn )", source)
+    shared = {name: options(it, source) for it in functions for name in re.findall(r"^fn (\w+_command)<", it)}
+    for function in functions:
         abouts = dict(re.findall(rf"let (\w*about) = {TEXT};", function))
-        made = [(name, abouts[about], after) for name, about, after in re.findall(rf"network_command\(alloc, {TEXT}, (\w+), (\w+)\)", function)]
+        made = [(by, name, abouts[about], after) for by, name, about, after in re.findall(rf"(\w+_command)\(alloc, {TEXT}, (\w+), (\w+)\)", function)]
         rows = options(function, source) if len(made) == 1 else []
         program = re.findall(rf"Command::new\(alloc, {TEXT}\)\s*\.about\({TEXT}\)\s*\.after_help\((\w+)\)", function)
-        for name, about, after in made + program:
-            found[name] = (name, about, named[after].split("\n\n"), rows)
+        for by, name, about, after in made + [("", *it) for it in program]:
+            found[name] = (name, about, named[after].split("\n\n"), rows + shared.get(by, []))
     listed = re.findall(r"\.subcommand\((\w+?)(?:_definition\(alloc\)\?)?\)", source)
     return [found[name] for name in ("vcnet", *listed)]
 

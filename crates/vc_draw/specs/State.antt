@@ -1,5 +1,5 @@
 -- The lines that show a network's state in the labels of a drawing. There are none for what is quiet.
-use Rattle.std.specs.Prelude.{◌≡◌, ℕ, ◌==◌, nat_lt, true, false, ◌||◌, List, [], ◌++◌, length, map, slice_get, Bool, if◌then◌else◌, codes, decimal, Option, Some, None}
+use Rattle.std.specs.Prelude.{◌≡◌, ℕ, ◌==◌, nat_lt, true, false, ◌||◌, List, [], ◌∷◌, ◌++◌, length, map, slice_get, Bool, if◌then◌else◌, codes, decimal, Option, Some, None}
 use Rattle.std.specs.List.{enumerate_from, flat_map}
 use Rattle.std.specs.Option.{option_map_or}
 use Rattle.vc_accepted.specs.ActorWays.{actor_of}
@@ -9,6 +9,7 @@ use Rattle.vc_core.specs.Links.{credit_in, way_of}
 use Rattle.vc_core.specs.declared.place.Place.{Place}
 use Rattle.vc_draw.specs.Graph.{graph_text}
 use Rattle.vc_draw.specs.declared.labels.Labels.{Labels}
+use Rattle.vc_draw.specs.declared.vlink_lines.VlinkLines.{VlinkLines}
 use Rattle.vc_occam.specs.declared.blocked.Blocked.{Blocked}
 use Rattle.vc_plan.specs.Accepted.{port_of}
 use Rattle.vc_plan.specs.declared.channel.Channel.{Channel}
@@ -80,10 +81,17 @@ state_labels plan x places = record {
 abbrev pub AreStateLabels : Plan → NetworkState → Labels → Type 0
 AreStateLabels plan x labels = (places : List (Option Place)) × ArePlaces plan x places × (labels ≡ state_labels plan x places)
 
--- the text is the network's graph with the state in its labels
-abbrev pub IsStateGraph : Plan → NetworkState → List ℕ → Type 0
-IsStateGraph plan x text = (labels : Labels) × AreStateLabels plan x labels × (text ≡ graph_text plan labels)
+-- the ports that have no credit
+abbrev pub starved_at : Plan → NetworkState → Port → List Port
+starved_at plan x p = if credit_of plan x p == 0 then p ∷ [] else []
+
+abbrev pub starved : Plan → NetworkState → List Port
+starved plan x = flat_map (λ w. starved_at plan x w.one ++ starved_at plan x w.two) plan.wires
+
+-- the text is the network's graph with the state in its labels, and with the ports without credit in red
+abbrev pub IsStateGraph : VlinkLines → Plan → NetworkState → List ℕ → Type 0
+IsStateGraph vlinks plan x text = (labels : Labels) × AreStateLabels plan x labels × (text ≡ graph_text vlinks plan labels (starved plan x))
 
 -- and so the drawing of a run
-abbrev pub IsStateDrawing : RunText
-IsStateDrawing plan events x close text = IsStateGraph plan x text
+abbrev pub IsStateDrawing : VlinkLines → RunText
+IsStateDrawing vlinks plan events x close text = IsStateGraph vlinks plan x text

@@ -13,7 +13,7 @@ use vc_text::push_number;
 use vc_waits::push_ports;
 
 /// How many more tokens the actor at a port may put on its link.
-fn credit_of(plan: &Plan, network: &Network, port: Port) -> u8
+pub(crate) fn credit_of(plan: &Plan, network: &Network, port: Port) -> u8
     requires { IsNetworkOf plan.now (state_of network.now) }
     ensures { result ≡ credit_at plan.now (shown (state_of network.now)) port }
 {

@@ -4,6 +4,7 @@ use crate::streams::Kept;
 use std::alloc::Global;
 use std::sync::Wait;
 use std::thread::Threads;
+use vc_draw::{StateOptions, VlinkLines};
 use vc_stats::Form;
 use vc_text::{Schedule, StepOptions, ThreadOptions};
 use vc_words::{Account, Line, LineFault, Meter, NamedFiles, command, run_words};
@@ -25,12 +26,48 @@ const USUAL_THREADS: ThreadOptions = ThreadOptions {
 
 /// Command lines, and what they ask for, or the status of one that asks for nothing.
 const LINES: &[(&[&str], Result<Line, u8>)] = &[
-    (&["vcnet", "check"], Ok(Line::Check)),
-    (&["vcnet", "deadlock"], Ok(Line::Deadlock)),
-    (&["vcnet", "draw"], Ok(Line::Draw { after: None })),
+    (&["vcnet", "check"], Ok(Line::Check { form: Form::Lines })),
+    (
+        &["vcnet", "label", "--json"],
+        Ok(Line::Label { form: Form::Json }),
+    ),
+    (
+        &["vcnet", "deadlock"],
+        Ok(Line::Deadlock { form: Form::Lines }),
+    ),
+    (
+        &["vcnet", "draw"],
+        Ok(Line::Draw {
+            state: None,
+            vlinks: VlinkLines::Drawn,
+        }),
+    ),
     (
         &["vcnet", "draw", "--after", "0"],
-        Ok(Line::Draw { after: Some(0) }),
+        Ok(Line::Draw {
+            state: Some(StateOptions {
+                limit: 0,
+                schedule: Schedule::InTurn,
+            }),
+            vlinks: VlinkLines::Drawn,
+        }),
+    ),
+    (
+        &[
+            "vcnet",
+            "draw",
+            "--after=7",
+            "--schedule",
+            "9",
+            "--no-vlinks",
+        ],
+        Ok(Line::Draw {
+            state: Some(StateOptions {
+                limit: 7,
+                schedule: Schedule::Random(9),
+            }),
+            vlinks: VlinkLines::LeftOut,
+        }),
     ),
     (&["vcnet", "explain"], Ok(Line::Explain)),
     (

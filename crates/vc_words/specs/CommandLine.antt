@@ -15,6 +15,9 @@ use Rattle.clap.specs.declared.builder.value_parser.ValueParser.TheVariants.{Sig
 use Rattle.clap.specs.declared.error.kind.ErrorKind.{ErrorKind}
 use Rattle.clap.specs.declared.parser.matches.ArgMatches.{ArgMatches}
 use Rattle.clap.specs.declared.error.kind.ErrorKind.TheVariants.{DisplayHelp, DisplayVersion, OutOfMemory}
+use Rattle.vc_draw.specs.declared.state_options.StateOptions.{StateOptions}
+use Rattle.vc_draw.specs.declared.vlink_lines.VlinkLines.{VlinkLines}
+use Rattle.vc_draw.specs.declared.vlink_lines.VlinkLines.TheVariants.{Drawn, LeftOut}
 use Rattle.vc_text.specs.declared.schedule.Schedule.{Schedule}
 use Rattle.vc_text.specs.declared.schedule.Schedule.TheVariants.{InTurn, Random}
 use Rattle.vc_text.specs.declared.step_options.StepOptions.{StepOptions}
@@ -68,6 +71,9 @@ needed_of name = record (new_rule name) { long = Some name; value_names = 1; req
 abbrev pub events_option : Rule
 events_option = needed_of (codes "events")
 
+abbrev pub no_vlinks_flag : Rule
+no_vlinks_flag = flag_of (codes "no-vlinks")
+
 abbrev pub stats_flag : Rule
 stats_flag = flag_of (codes "stats")
 
@@ -95,13 +101,13 @@ abbrev pub subcommand_of_rules : Text → List Rule → Shape
 subcommand_of_rules name options = record (new_shape name) { rules = file_rule ∷ options }
 
 abbrev pub check_shape : Shape
-check_shape = subcommand_of_rules (codes "check") []
+check_shape = subcommand_of_rules (codes "check") (json_flag ∷ [])
 
 abbrev pub explain_shape : Shape
 explain_shape = subcommand_of_rules (codes "explain") []
 
 abbrev pub deadlock_shape : Shape
-deadlock_shape = subcommand_of_rules (codes "deadlock") []
+deadlock_shape = subcommand_of_rules (codes "deadlock") (json_flag ∷ [])
 
 -- whether the progress of a run is shown
 abbrev pub progress_flags : List Rule
@@ -115,10 +121,10 @@ abbrev pub explore_shape : Shape
 explore_shape = subcommand_of_rules (codes "explore") (states_option ∷ json_flag ∷ progress_flags)
 
 abbrev pub label_shape : Shape
-label_shape = subcommand_of_rules (codes "label") []
+label_shape = subcommand_of_rules (codes "label") (json_flag ∷ [])
 
 abbrev pub draw_shape : Shape
-draw_shape = subcommand_of_rules (codes "draw") (after_option ∷ [])
+draw_shape = subcommand_of_rules (codes "draw") (after_option ∷ schedule_option ∷ no_vlinks_flag ∷ [])
 
 -- and what is printed of it
 abbrev pub run_flags : List Rule
@@ -162,11 +168,22 @@ has_flag id rows = option_map_or (λ text. bytes_eq text (codes "true")) (one_of
 abbrev pub schedule_of : ℕ → Schedule
 schedule_of n = if n == 0 then InTurn else Random n
 
+abbrev pub schedule_in : List Row → Schedule
+schedule_in rows = schedule_of (number_of (codes "schedule") 4294967295 0 rows)
+
+-- the state with which a network is drawn, if there is one, and whether its virtual links are drawn
+abbrev pub state_options_of : List Row → Option StateOptions
+state_options_of rows =
+    option_map (λ limit. record { limit = limit; schedule = schedule_in rows }) (number_at (codes "after") 1000000000 rows)
+
+abbrev pub vlink_lines_of : List Row → VlinkLines
+vlink_lines_of rows = if has_flag (codes "no-vlinks") rows then LeftOut else Drawn
+
 -- how the options of `step` and of `run` say that the network is run
 abbrev pub step_options_of : List Row → StepOptions
 step_options_of rows = record {
   limit = number_of (codes "limit") 1000000000 1000000 rows;
-  schedule = schedule_of (number_of (codes "schedule") 4294967295 0 rows);
+  schedule = schedule_in rows;
   is_together = has_flag (codes "together") rows;
   is_why = has_flag (codes "why") rows;
 }
@@ -182,7 +199,7 @@ thread_options_of rows = record {
 abbrev pub states_of : List Row → ℕ
 states_of rows = max (number_of (codes "states") 10000000 1000000 rows) 1
 
--- what is found is written as lines, or as JSON
+-- lines, or JSON
 abbrev pub form_of : List Row → Form
 form_of rows = if has_flag (codes "json") rows then FormJson else Lines
 
@@ -199,10 +216,10 @@ line_of (name, rows) =
     if bytes_eq name (codes "step") then Step (step_options_of rows) (account_of rows)
     else (if bytes_eq name (codes "run") then Run (thread_options_of rows) (account_of rows)
     else (if bytes_eq name (codes "replay") then Replay (has_flag (codes "why") rows)
-    else (if bytes_eq name (codes "draw") then Draw (number_at (codes "after") 1000000000 rows)
+    else (if bytes_eq name (codes "draw") then Draw (state_options_of rows) (vlink_lines_of rows)
     else (if bytes_eq name (codes "explore") then Explore (states_of rows) (form_of rows)
     else (if bytes_eq name (codes "explain") then Explain
-    else (if bytes_eq name (codes "deadlock") then Deadlock else (if bytes_eq name (codes "label") then Label else Check)))))))
+    else (if bytes_eq name (codes "deadlock") then Deadlock (form_of rows) else (if bytes_eq name (codes "label") then Label (form_of rows) else Check (form_of rows))))))))
 
 -- the kinds of fault that the words have: none if they are a command line
 abbrev pub faults : List Text → Kinds
@@ -265,13 +282,13 @@ IsFaultOf kinds (Bad text status) = (kind : ErrorKind) × IsAmong kind kinds × 
 
 -- the numbers of a line are in their ranges
 abbrev pub IsInRange : Line → Type 0
-IsInRange Check = ⊤
+IsInRange (Check form) = ⊤
 IsInRange Explain = ⊤
-IsInRange Deadlock = ⊤
-IsInRange Label = ⊤
+IsInRange (Deadlock form) = ⊤
+IsInRange (Label form) = ⊤
 IsInRange (Explore states form) = (0 < states) × (states ≤ 10000000)
-IsInRange (Draw None) = ⊤
-IsInRange (Draw (Some after)) = after ≤ 1000000000
+IsInRange (Draw None vlinks) = ⊤
+IsInRange (Draw (Some options) vlinks) = options.limit ≤ 1000000000
 IsInRange (Step options account) = options.limit ≤ 1000000000
 IsInRange (Run options account) = options.turns ≤ 1000000000
 IsInRange (Replay is_why) = ⊤

@@ -2,6 +2,7 @@
 use Rattle.std.specs.Prelude.{◌≡◌, true, false, Some, None, List, [], ◌∷◌, codes}
 use Rattle.clap.specs.Walk.{Text}
 use Rattle.clap.specs.declared.error.kind.ErrorKind.TheVariants.{DisplayHelp, DisplayVersion, MissingRequiredArgument, UnknownArgument, ValueValidation}
+use Rattle.vc_draw.specs.declared.vlink_lines.VlinkLines.TheVariants.{Drawn, LeftOut}
 use Rattle.vc_text.specs.declared.schedule.Schedule.TheVariants.{InTurn, Random}
 use Rattle.vc_text.specs.declared.step_options.StepOptions.{StepOptions}
 use Rattle.vc_text.specs.declared.thread_options.ThreadOptions.{ThreadOptions}
@@ -22,14 +23,17 @@ abbrev usual_threads : ThreadOptions
 usual_threads = record { turns = 10000000; seed = 0; is_why = false }
 
 pub record LinesAreRead : Type 0 where
-  pub check : Asks (line (codes "check" ∷ [])) Check
+  pub check : Asks (line (codes "check" ∷ [])) (Check Lines)
   pub explain : Asks (line (codes "explain" ∷ [])) Explain
-  pub deadlock : Asks (line (codes "deadlock" ∷ [])) Deadlock
+  pub deadlock : Asks (line (codes "deadlock" ∷ [])) (Deadlock Lines)
+  pub json : Asks (line (codes "check" ∷ codes "--json" ∷ [])) (Check FormJson)
   pub explore : Asks (line (codes "explore" ∷ [])) (Explore 1000000 Lines)
   pub states : Asks (line (codes "explore" ∷ codes "--states" ∷ codes "9" ∷ codes "--json" ∷ [])) (Explore 9 FormJson)
-  pub label : Asks (line (codes "label" ∷ [])) Label
-  pub draw : Asks (line (codes "draw" ∷ [])) (Draw None)
-  pub after : Asks (line (codes "draw" ∷ codes "--after" ∷ codes "9" ∷ [])) (Draw (Some 9))
+  pub label : Asks (line (codes "label" ∷ [])) (Label Lines)
+  pub draw : Asks (line (codes "draw" ∷ [])) (Draw None Drawn)
+  pub after : Asks (line (codes "draw" ∷ codes "--after" ∷ codes "9" ∷ [])) (Draw (Some (record { limit = 9; schedule = InTurn })) Drawn)
+  pub drawn_by_schedule : Asks (line (codes "draw" ∷ codes "--after=9" ∷ codes "--schedule=5" ∷ [])) (Draw (Some (record { limit = 9; schedule = Random 5 })) Drawn)
+  pub no_vlinks : Asks (line (codes "draw" ∷ codes "--no-vlinks" ∷ [])) (Draw None LeftOut)
   pub step : Asks (line (codes "step" ∷ [])) (Step usual Traffic)
   pub limit : Asks (line (codes "step" ∷ codes "--limit" ∷ codes "7" ∷ [])) (Step (record usual { limit = 7 }) Traffic)
   pub together : Asks (line (codes "step" ∷ codes "--together" ∷ [])) (Step (record usual { is_together = true }) Traffic)
@@ -40,7 +44,7 @@ pub record LinesAreRead : Type 0 where
   pub run_trace : Asks (line (codes "run" ∷ codes "--trace" ∷ [])) (Run usual_threads Events)
   pub stats : Asks (line (codes "step" ∷ codes "--stats" ∷ [])) (Step usual (Counts Lines))
   pub replay : Asks (line (codes "replay" ∷ codes "--events" ∷ codes "a" ∷ [])) (Replay false)
-  pub file : Asks (line (codes "check" ∷ codes "a.json" ∷ [])) Check
+  pub file : Asks (line (codes "check" ∷ codes "a.json" ∷ [])) (Check Lines)
   pub named : NamesNetwork (line (codes "step" ∷ codes "a.json" ∷ codes "--why" ∷ [])) (Some (codes "a.json"))
   pub unnamed : NamesNetwork (line (codes "step" ∷ codes "--why" ∷ [])) None
   pub two_files : faults (line (codes "check" ∷ codes "a.json" ∷ codes "b.json" ∷ [])) ≡ UnknownArgument ∷ []

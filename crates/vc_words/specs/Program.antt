@@ -7,13 +7,14 @@ use Rattle.vc_stats.specs.declared.form.Form.{Form}
 use Rattle.vc_text.specs.CheckText.{Checks, ReadsAccepted}
 use Rattle.vc_text.specs.Deadlock.{TellsDeadlock}
 use Rattle.vc_text.specs.FaultLine.{fault_text}
+use Rattle.vc_json.specs.Answers.{ChecksJson, TellsDeadlockJson}
+use Rattle.vc_json.specs.Words.{line_json}
 use Rattle.vc_label_run.specs.Labels.{Labels}
 use Rattle.vc_draw.specs.Graph.{WritesGraph}
 use Rattle.vc_core.specs.declared.close.Close.{Close}
 use Rattle.vc_text.specs.OneNode.{ReadsAs}
 use Rattle.vc_plan.specs.declared.plan.Plan.{Plan as Network}
 use Rattle.vc_text.specs.declared.schedule.Schedule.{Schedule}
-use Rattle.vc_text.specs.declared.schedule.Schedule.TheVariants.{InTurn}
 use Rattle.vc_text.specs.RunText.{RunText, WritesRunBy}
 use Rattle.vc_text.specs.Streams.{Writes}
 use Rattle.vc_text.specs.Tail.{IsTail}
@@ -24,6 +25,10 @@ use Rattle.vc_threads.specs.declared.report.Ending.{Ending}
 use Rattle.vc_text.specs.declared.fault.RunFault.{RunFault}
 use Rattle.vc_text.specs.declared.fault.RunFault.TheVariants.{Memory, Read}
 use Rattle.vc_draw.specs.State.{IsStateDrawing}
+use Rattle.vc_draw.specs.declared.state_options.StateOptions.{StateOptions}
+use Rattle.vc_draw.specs.declared.vlink_lines.VlinkLines.{VlinkLines}
+use Rattle.vc_stats.specs.declared.form.Form.{Form}
+use Rattle.vc_stats.specs.declared.form.Form.TheVariants.{Lines, Json as FormJson}
 use Rattle.vc_stats.specs.Texts.{IsEventsText, IsStatsText, IsTrafficJson}
 use Rattle.vc_trace.specs.Replay.{Replays}
 use Rattle.vc_trace.specs.TraceText.{IsTracedText, WritesTraceBy}
@@ -52,16 +57,28 @@ Tells old new text wanted status = (written : Result ⊤ RunFault) × Writes old
 abbrev pub TellsFault : Option (List ℕ) → Option (List ℕ) → RunFault → ℕ → Type 0
 TellsFault old new fault status = Tells old new (fault_text fault) (status_of_fault fault) status
 
+-- a line as it is, or as JSON
+abbrev pub line_in : Form → List ℕ → List ℕ
+line_in Lines line = line
+line_in FormJson line = line_json line
+
+abbrev pub TellsFaultIn : Form → Option (List ℕ) → Option (List ℕ) → RunFault → ℕ → Type 0
+TellsFaultIn form old new fault status = Tells old new (line_in form (fault_text fault)) (status_of_fault fault) status
+
 -- a text about the network that the reader had is written, or a fault is told
-abbrev pub WritesOrTells : (Option (List ℕ) → Option (List ℕ) → Option (List ℕ) → Result ⊤ RunFault → Type 0)
+abbrev pub WritesOrTells : Form → (Option (List ℕ) → Option (List ℕ) → Option (List ℕ) → Result ⊤ RunFault → Type 0)
     → Option (List ℕ) → Option (List ℕ) → Option (List ℕ) → ℕ → Type 0
-WritesOrTells WritesText known old new status =
+WritesOrTells form WritesText known old new status =
     (WritesText known old new (Ok tt) × (status ≡ 0))
-    ⊎ ((fault : RunFault) × (mid : Option (List ℕ)) × WritesText known old mid (Err fault) × TellsFault mid new fault status)
+    ⊎ ((fault : RunFault) × (mid : Option (List ℕ)) × WritesText known old mid (Err fault) × TellsFaultIn form mid new fault status)
 
 -- the network that the reader had is checked
-abbrev pub ChecksNetwork : Option (List ℕ) → Option (List ℕ) → Option (List ℕ) → ℕ → Type 0
-ChecksNetwork = WritesOrTells Checks
+abbrev pub ChecksIn : Form → Option (List ℕ) → Option (List ℕ) → Option (List ℕ) → Result ⊤ RunFault → Type 0
+ChecksIn Lines = Checks
+ChecksIn FormJson = ChecksJson
+
+abbrev pub ChecksNetwork : Form → Option (List ℕ) → Option (List ℕ) → Option (List ℕ) → ℕ → Type 0
+ChecksNetwork form = WritesOrTells form (ChecksIn form)
 
 -- it is told what is wrong in its file and where, or what it has
 abbrev pub ExplainsNetwork : Option (List ℕ) → Option (List ℕ) → Option (List ℕ) → ℕ → Type 0
@@ -69,29 +86,34 @@ ExplainsNetwork known old new status =
     ((is_accepted : Bool) × Explains known old new (Ok is_accepted) × (status ≡ status_of_acceptance is_accepted))
     ⊎ ((fault : RunFault) × (mid : Option (List ℕ)) × Explains known old mid (Err fault) × TellsFault mid new fault status)
 
--- a cycle of dependencies along which its packets might wait is shown, or that there is none, or a fault of it is told
-abbrev pub FindsDeadlock : Option (List ℕ) → Option (List ℕ) → Option (List ℕ) → ℕ → Type 0
-FindsDeadlock known old new status =
-    ((free : Bool) × TellsDeadlock known old new (Ok free) × (status ≡ status_of_freedom free))
-    ⊎ ((fault : RunFault) × (mid : Option (List ℕ)) × TellsDeadlock known old mid (Err fault) × TellsFault mid new fault status)
+-- a cycle of dependencies along which its packets might wait is shown, or that there is none
+abbrev pub TellsDeadlockIn : Form → Option (List ℕ) → Option (List ℕ) → Option (List ℕ) → Result Bool RunFault → Type 0
+TellsDeadlockIn Lines = TellsDeadlock
+TellsDeadlockIn FormJson = TellsDeadlockJson
+
+-- or a fault of it is told
+abbrev pub FindsDeadlock : Form → Option (List ℕ) → Option (List ℕ) → Option (List ℕ) → ℕ → Type 0
+FindsDeadlock form known old new status =
+    ((free : Bool) × TellsDeadlockIn form known old new (Ok free) × (status ≡ status_of_freedom free))
+    ⊎ ((fault : RunFault) × (mid : Option (List ℕ)) × TellsDeadlockIn form known old mid (Err fault) × TellsFaultIn form mid new fault status)
 
 -- what all schedules of its program come to is written, with whether its packets might wait, or a fault of it is told
 abbrev pub ExploresNetwork : ℕ → Form → Option (List ℕ) → Option (List ℕ) → Option (List ℕ) → ℕ → Type 0
 ExploresNetwork states form known old new status =
     ((finding : Finding) × TellsExplored form known old new (Ok finding) × (status ≡ status_of_finding finding))
-    ⊎ ((fault : RunFault) × (mid : Option (List ℕ)) × TellsExplored form known old mid (Err fault) × TellsFault mid new fault status)
+    ⊎ ((fault : RunFault) × (mid : Option (List ℕ)) × TellsExplored form known old mid (Err fault) × TellsFaultIn form mid new fault status)
 
 -- it is labelled, and its whole file is written, or a fault of it is told
-abbrev pub LabelsNetwork : Option (List ℕ) → Option (List ℕ) → Option (List ℕ) → ℕ → Type 0
-LabelsNetwork = WritesOrTells Labels
+abbrev pub LabelsNetwork : Form → Option (List ℕ) → Option (List ℕ) → Option (List ℕ) → ℕ → Type 0
+LabelsNetwork form = WritesOrTells form Labels
 
--- it is written as Graphviz text: as its plan says, or with its state after at most so many events, or a fault of it is told
-abbrev pub DrawsNetwork : Option ℕ → Option (List ℕ) → Option (List ℕ) → Option (List ℕ) → ℕ → Type 0
-DrawsNetwork None known old new status = WritesOrTells WritesGraph known old new status
-DrawsNetwork (Some after) known old new status =
-    let Draws = WritesRunBy IsStateDrawing (ReadsAccepted known) in
-    ((close : Close) × Draws old new InTurn after (Ok close) × (status ≡ 0))
-    ⊎ ((fault : RunFault) × (mid : Option (List ℕ)) × Draws old mid InTurn after (Err fault) × TellsFault mid new fault status)
+-- it is written as Graphviz text: as its plan says, or with its state after a run, or a fault of it is told
+abbrev pub DrawsNetwork : Option StateOptions → VlinkLines → Option (List ℕ) → Option (List ℕ) → Option (List ℕ) → ℕ → Type 0
+DrawsNetwork None vlinks known old new status = WritesOrTells Lines (WritesGraph vlinks) known old new status
+DrawsNetwork (Some options) vlinks known old new status =
+    let Draws = WritesRunBy (IsStateDrawing vlinks) (ReadsAccepted known) in
+    ((close : Close) × Draws old new options.schedule options.limit (Ok close) × (status ≡ 0))
+    ⊎ ((fault : RunFault) × (mid : Option (List ℕ)) × Draws old mid options.schedule options.limit (Err fault) × TellsFault mid new fault status)
 
 -- the text of a run: its traffic, its events and then its traffic, its traffic and then its counts, or its traffic as JSON
 abbrev pub IsTextOf : Account → (is_why : Bool) → RunText
@@ -159,12 +181,12 @@ TellsLine words old new status =
 
 -- what a line asks for is done with the network of these bytes
 abbrev pub Does : Files → List Text → Line → Option (List ℕ) → Option (List ℕ) → Option (List ℕ) → ℕ → Type 0
-Does files words Check known old new status = ChecksNetwork known old new status
+Does files words (Check form) known old new status = ChecksNetwork form known old new status
 Does files words Explain known old new status = ExplainsNetwork known old new status
-Does files words Deadlock known old new status = FindsDeadlock known old new status
+Does files words (Deadlock form) known old new status = FindsDeadlock form known old new status
 Does files words (Explore states form) known old new status = ExploresNetwork states form known old new status
-Does files words Label known old new status = LabelsNetwork known old new status
-Does files words (Draw after) known old new status = DrawsNetwork after known old new status
+Does files words (Label form) known old new status = LabelsNetwork form known old new status
+Does files words (Draw state vlinks) known old new status = DrawsNetwork state vlinks known old new status
 Does files words (Step options account) known old new status = StepsNetwork options account known old new status
 Does files words (Run options account) known old new status = RunsNetwork options account known old new status
 Does files words (Replay is_why) known old new status = ReplaysNetwork files words is_why known old new status
@@ -173,11 +195,18 @@ Does files words (Replay is_why) known old new status = ReplaysNetwork files wor
 abbrev pub file_fault : List ℕ
 file_fault = codes "fault file" ++ 10 ∷ []
 
+-- the form in which a line asks for refusals
+abbrev pub form_of_line : Line → Form
+form_of_line (Check form) = form
+form_of_line (Deadlock form) = form
+form_of_line (Label form) = form
+form_of_line line = Lines
+
 -- it is done with the network of the file of this name, or it is told that the file can't be opened
 abbrev pub DoesFile : Files → List Text → Line → Text → Option (List ℕ) → Option (List ℕ) → ℕ → Type 0
 DoesFile files words line name old new status =
     ((bytes : Option (List ℕ)) × files.holds name bytes × Does files words line bytes old new status)
-    ⊎ (files.fails name × Tells old new file_fault 6 status)
+    ⊎ (files.fails name × Tells old new (line_in (form_of_line line) file_fault) 6 status)
 
 -- What the words ask for is done, with these files: the reader's bytes before and after, the writer's, and the status. The network is that
 -- of the file that the words name, or of the reader if they name none. A line that is told, or that names a file, does not read the reader.

@@ -2,7 +2,7 @@
 ghost use Rattle.std.specs.Prelude.{◌≡◌, ◌<◌, ◌≤◌, ◌×◌, IfOk, IfErr, IfSome, option_map};
 ghost use Rattle.clap.specs.Words.{found_of, kind_of, rows_of, subcommand_rows_of};
 ghost use Rattle.clap.specs.Walk.{texts};
-ghost use Rattle.vc_words.specs.CommandLine.{account_of, has_flag, line_of as line_for, form_of, number_at, number_of, schedule_of, states_of, step_options_of, thread_options_of, faults, Asks, counted_of, progress_of, shows_progress, HasFound, IsFaultOf, IsInRange, IsToldAs, NamesEvents, NamesNetwork, text_in as text_of_argument};
+ghost use Rattle.vc_words.specs.CommandLine.{account_of, has_flag, line_of as line_for, number_at, number_of, schedule_in as schedule_named, schedule_of, state_options_of, states_of, step_options_of, vlink_lines_of, thread_options_of, faults, form_of, Asks, counted_of, progress_of, shows_progress, HasFound, IsFaultOf, IsInRange, IsToldAs, NamesEvents, NamesNetwork, text_in as text_of_argument};
 
 use crate::account::Account;
 use crate::definition::definition;
@@ -12,6 +12,7 @@ use crate::progress::{Progress, Unit};
 use clap::error::ErrorKind;
 use clap::{ArgMatches, Error};
 use std::alloc::Global;
+use vc_draw::{StateOptions, VlinkLines};
 use vc_stats::Form;
 use vc_text::{Schedule, StepOptions, ThreadOptions};
 
@@ -80,6 +81,38 @@ fn schedule(number: u32) -> Schedule
     }
 }
 
+/// The order of events that the matches of `step` or `draw` name.
+fn schedule_in(matches: &ArgMatches<'_>) -> Schedule
+    ensures { result ≡ schedule_named (rows_of (found_of matches.now)) }
+{
+    schedule(number(matches, "schedule", u64::from(u32::MAX), 0) as u32)
+}
+
+/// The state with which the matches of `draw` say that the network is drawn, if they say so.
+fn state_options(matches: &ArgMatches<'_>) -> Option<StateOptions>
+    ensures options { result ≡ state_options_of (rows_of (found_of matches.now)) }
+    ensures range { IfSome result (λ options. options.limit ≤ 1000000000) }
+{
+    match number_if_any(matches, "after", MOST) {
+        Some(limit) => Some(StateOptions {
+            limit,
+            schedule: schedule_in(matches),
+        }),
+        None => None,
+    }
+}
+
+/// Whether the matches of `draw` say that the virtual links are drawn.
+fn vlink_lines(matches: &ArgMatches<'_>) -> VlinkLines
+    ensures { result ≡ vlink_lines_of (rows_of (found_of matches.now)) }
+{
+    if is_set(matches, "no-vlinks") {
+        VlinkLines::LeftOut
+    } else {
+        VlinkLines::Drawn
+    }
+}
+
 /// How the matches of `step` say that the network is run.
 fn step_options(matches: &ArgMatches<'_>) -> StepOptions
     ensures options { result ≡ step_options_of (rows_of (found_of matches.now)) }
@@ -87,7 +120,7 @@ fn step_options(matches: &ArgMatches<'_>) -> StepOptions
 {
     StepOptions {
         limit: number(matches, "limit", MOST, USUAL_EVENTS),
-        schedule: schedule(number(matches, "schedule", u64::from(u32::MAX), 0) as u32),
+        schedule: schedule_in(matches),
         is_together: is_set(matches, "together"),
         is_why: is_set(matches, "why"),
     }
@@ -112,11 +145,10 @@ fn account(matches: &ArgMatches<'_>) -> Account
     if is_set(matches, "trace") {
         return Account::Events;
     }
-    match (is_set(matches, "stats"), is_set(matches, "json")) {
-        (true, true) => Account::Counts(Form::Json),
-        (true, false) => Account::Counts(Form::Lines),
-        (false, true) => Account::Json,
-        (false, false) => Account::Traffic,
+    match (is_set(matches, "stats"), form(matches)) {
+        (true, form) => Account::Counts(form),
+        (false, Form::Json) => Account::Json,
+        (false, Form::Lines) => Account::Traffic,
     }
 }
 
@@ -157,16 +189,18 @@ fn line_of(matches: &ArgMatches<'_>) -> Line
             is_why: is_set(inner, "why"),
         },
         Some(("draw", inner)) => Line::Draw {
-            after: number_if_any(inner, "after", MOST),
+            state: state_options(inner),
+            vlinks: vlink_lines(inner),
         },
         Some(("explore", inner)) => Line::Explore {
             states: states(inner),
             form: form(inner),
         },
         Some(("explain", _)) => Line::Explain,
-        Some(("deadlock", _)) => Line::Deadlock,
-        Some(("label", _)) => Line::Label,
-        _ => Line::Check,
+        Some(("deadlock", inner)) => Line::Deadlock { form: form(inner) },
+        Some(("label", inner)) => Line::Label { form: form(inner) },
+        Some((_, inner)) => Line::Check { form: form(inner) },
+        None => Line::Check { form: Form::Lines },
     }
 }
 

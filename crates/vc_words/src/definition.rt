@@ -1,11 +1,11 @@
 //! What `clap` is given of the command line.
-ghost use Rattle.std.specs.Prelude.{◌≡◌, false, IfOk};
+ghost use Rattle.std.specs.Prelude.{◌≡◌, false, IfOk, [], ◌∷◌};
 ghost use Rattle.clap.specs.Words.{app_of, new_app, with_rule};
 ghost use Rattle.clap.specs.Walk.{rule_of};
 ghost use Rattle.clap.specs.Simple.{shape_of};
 ghost use Rattle.clap.specs.declared.builder.command.Command.TheViews.{out-Command};
 ghost use Rattle.clap.specs.declared.builder.value_parser.ValueParser.TheVariants.{Unsigned};
-ghost use Rattle.vc_words.specs.CommandLine.{file_rule, flag_of, needed_of, option_of, optional_of, draw_shape, explore_shape, replay_shape, run_shape, step_shape, vcnet};
+ghost use Rattle.vc_words.specs.CommandLine.{file_rule, flag_of, json_flag, subcommand_of_rules, needed_of, option_of, optional_of, draw_shape, explore_shape, replay_shape, run_shape, step_shape, vcnet};
 
 use clap::builder::ValueParser;
 use clap::{Arg, ArgAction, Command, value_parser};
@@ -73,13 +73,14 @@ Example: vcnet label examples/short/hello.json";
 
 /// The end of the help of `draw`.
 const DRAW_HELP: &str = "\
-Prints the network as text for Graphviz's `dot`, which makes a drawing of it: nodes as boxes, switches as ellipses, a line for each wire, \
-a dashed line for each virtual link with its channels, and a dotted line for each channel inside a node. With --after the labels show the state \
-after N events of `step`: who waits for what, the tokens on the wires, and where the packets are.
+Prints the network as text for Graphviz's `dot` or `neato`, which make a drawing of it: nodes as boxes, switches as ellipses, a line for each \
+wire, a dashed gray line for each virtual link with its channels, and a dotted line for each channel inside a node. If packets may come to wait \
+for one another in a circle, its wires are red. With --after the labels show the state after N events of `step`: who waits for what, the tokens \
+on the wires, and where the packets are; and the wires without credit are red.
 
 Exit status: 0 drawn; 2 refused; 4 no memory; 5 a bad command line; 6 a stream failed.
 
-Example: vcnet draw examples/ring.json | dot -Tsvg > ring.svg";
+Example: vcnet draw examples/ring.json | neato -Tsvg > ring.svg";
 
 /// The end of the help of `replay`.
 const REPLAY_HELP: &str = "\
@@ -121,6 +122,17 @@ const NETWORK: &str = "The network file; standard input if it is left out";
 /// What `--why` asks for.
 const WHY: &str = "Prints, after the traffic, who waits for what and where the packets are";
 
+/// What `--schedule` of `step` asks for.
+const SCHEDULE: &str =
+    "Draws each event at random, the same for the same N, or makes them in turn if N is 0 (0 to 4,294,967,295)";
+
+/// What `--schedule` of `draw` asks for.
+const DRAW_SCHEDULE: &str =
+    "Makes the events of --after as `step --schedule N` does (0 to 4,294,967,295)";
+
+/// What `--no-vlinks` asks for.
+const NO_VLINKS: &str = "Leaves out the virtual links";
+
 /// What `--trace` asks for.
 const TRACE: &str =
     "Prints the events of the run, a line each, before its traffic; --stats and --json add nothing then";
@@ -135,6 +147,9 @@ const FOUND_JSON: &str = "Prints what is found as JSON";
 /// What `--json` asks for.
 const JSON: &str =
     "Prints the traffic, and the counts of --stats, as JSON; --why adds nothing then";
+
+/// What `--json` asks for of a command that answers in a line.
+const ANSWER_JSON: &str = "Prints the answer, or the refusal, as JSON";
 
 /// What `--progress` asks for.
 const PROGRESS: &str =
@@ -256,6 +271,20 @@ fn explore_definition<'a>(alloc: Global) -> Result<Command<'a>, AllocError>
         .arg(flag(alloc, "no-progress", NO_PROGRESS))
 }
 
+/// A subcommand that answers in lines or in JSON, with its help.
+fn json_command<'a>(
+    alloc: Global,
+    name: &'a str,
+    about: &'a str,
+    help: &'a str,
+) -> Result<Command<'a>, AllocError>
+    ensures shape { IfOk result
+        (λ c. shape_of c ≡ subcommand_of_rules name.entry.now (json_flag ∷ [])) }
+    ensures local { IfOk result (λ c. (out-Command c).has_globals ≡ false) }
+{
+    network_command(alloc, name, about, help)?.arg(flag(alloc, "json", ANSWER_JSON))
+}
+
 /// The subcommand that draws the network.
 fn draw_definition<'a>(alloc: Global) -> Result<Command<'a>, AllocError>
     ensures shape { IfOk result (λ c. shape_of c ≡ draw_shape) }
@@ -267,8 +296,12 @@ fn draw_definition<'a>(alloc: Global) -> Result<Command<'a>, AllocError>
         "Draws the network with its state after N events (0 to 1,000,000,000)",
         counts(),
     );
+    let schedule = number_option(alloc, "schedule", DRAW_SCHEDULE, value_parser!(u32), "0");
     let about = "Writes the network as Graphviz text";
-    network_command(alloc, "draw", about, DRAW_HELP)?.arg(after)
+    network_command(alloc, "draw", about, DRAW_HELP)?
+        .arg(after)?
+        .arg(schedule)?
+        .arg(flag(alloc, "no-vlinks", NO_VLINKS))
 }
 
 /// The subcommand that makes the events of a file.
@@ -301,13 +334,7 @@ fn step_definition<'a>(alloc: Global) -> Result<Command<'a>, AllocError>
         counts(),
         "1000000",
     );
-    let schedule = number_option(
-        alloc,
-        "schedule",
-        "Draws each event at random, the same for the same N, or makes them in turn if N is 0 (0 to 4,294,967,295)",
-        value_parser!(u32),
-        "0",
-    );
+    let schedule = number_option(alloc, "schedule", SCHEDULE, value_parser!(u32), "0");
     let together = flag(
         alloc,
         "together",
@@ -363,13 +390,13 @@ pub(crate) fn definition<'a>(alloc: Global) -> Result<Command<'a>, AllocError>
     ensures local { IfOk result (λ c. (out-Command c).has_globals ≡ false) }
 {
     let check_about = "Checks the network";
-    let check = network_command(alloc, "check", check_about, CHECK_HELP)?;
+    let check = json_command(alloc, "check", check_about, CHECK_HELP)?;
     let explain_about = "Says what is wrong in the network, and where";
     let explain = network_command(alloc, "explain", explain_about, EXPLAIN_HELP)?;
     let deadlock_about = "Shows a cycle along which packets of the network might wait";
-    let deadlock = network_command(alloc, "deadlock", deadlock_about, DEADLOCK_HELP)?;
+    let deadlock = json_command(alloc, "deadlock", deadlock_about, DEADLOCK_HELP)?;
     let label_about = "Makes the labelling of the network and prints the whole file";
-    let label = network_command(alloc, "label", label_about, LABEL_HELP)?;
+    let label = json_command(alloc, "label", label_about, LABEL_HELP)?;
     Command::new(alloc, "vcnet")
         .about("The virtual channel network of the T9000 and the C104, with occam processes")
         .after_help(PROGRAM_HELP)

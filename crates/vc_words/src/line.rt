@@ -1,5 +1,6 @@
 //! A command line.
 use crate::account::Account;
+use vc_draw::{StateOptions, VlinkLines};
 use vc_stats::Form;
 use vc_text::{StepOptions, ThreadOptions};
 
@@ -7,11 +8,17 @@ use vc_text::{StepOptions, ThreadOptions};
 #[derive(Clone, Copy, Debug, PartialEq, Eq, Drop)]
 pub enum Line {
     /// To check the network, and to print how large it is.
-    Check,
+    Check {
+        /// The form of the answer.
+        form: Form,
+    },
     /// To write what is wrong in the network file and where, or what the network has.
     Explain,
     /// To show a cycle of dependencies along which packets of the network might wait for one another, or that there is none.
-    Deadlock,
+    Deadlock {
+        /// The form of the answer.
+        form: Form,
+    },
     /// To look at all schedules of the network's program, and to print whether one gets it stuck, with a shortest one that does.
     Explore {
         /// The most states of the program that are looked at: from 1 to 10,000,000, and 1,000,000 if the words say nothing.
@@ -20,12 +27,16 @@ pub enum Line {
         form: Form,
     },
     /// To make the labelling of a network file that has none, and to print the whole file.
-    Label,
+    Label {
+        /// The form of a refusal.
+        form: Form,
+    },
     /// To write the network as Graphviz text.
     Draw {
-        /// The most events that are made before it is drawn, with the state after them: at most 1,000,000,000. None draws the network
-        /// alone.
-        after: Option<u64>,
+        /// The run after which it is drawn, with its state: of at most 1,000,000,000 events. None draws the network alone.
+        state: Option<StateOptions>,
+        /// Whether its virtual links are drawn.
+        vlinks: VlinkLines,
     },
     /// To run the network event by event, and to print its traffic.
     Step {

@@ -5,7 +5,7 @@ ghost use Rattle.clap.specs.Walk.{Text, texts};
 ghost use Rattle.vc_text.specs.OneNode.{ReadsAs};
 ghost use Rattle.vc_text.specs.ThreadsText.{WritesThreads};
 ghost use Rattle.vc_words.specs.CommandLine.{faults, IsFaultOf, IsInRange};
-ghost use Rattle.vc_words.specs.Program.{ChecksNetwork, DrawsNetwork, ExplainsNetwork, ExploresNetwork, FindsDeadlock, Does, DoesFile, IsThreadTextOf, LabelsNetwork, ReplaysFile, ReplaysNetwork, Runs, RunsNetwork, StepsNetwork, Tells, TellsFault, TellsLine, WritesStep, no_text_fault};
+ghost use Rattle.vc_words.specs.Program.{ChecksIn, ChecksNetwork, DrawsNetwork, ExplainsNetwork, ExploresNetwork, FindsDeadlock, Does, DoesFile, IsThreadTextOf, LabelsNetwork, ReplaysFile, ReplaysNetwork, Runs, RunsNetwork, StepsNetwork, Tells, TellsDeadlockIn, TellsFault, TellsFaultIn, TellsLine, WritesStep, form_of_line, line_in, no_text_fault};
 ghost use Rattle.vc_words.specs.Status.{status_of_acceptance as status_for_acceptance, status_of_check as status_for_check, status_of_text as status_for_text, status_of_fault, status_of_finding as status_for_finding, status_of_freedom as status_for_freedom, status_of_end, status_of_replay as status_for_replay};
 
 use crate::account::Account;
@@ -17,9 +17,10 @@ use std::io::{Read, Write};
 use std::sync::Wait;
 use std::thread::Threads;
 use vc_core::Close;
-use vc_draw::{run_draw, run_draw_after};
+use vc_draw::{StateOptions, VlinkLines, run_draw, run_draw_after};
 use vc_explain::run_explain;
 use vc_explore_text::{Finding, run_explore};
+use vc_json::{run_check_json, run_deadlock_json, write_fault_json, write_line_json};
 use vc_label_run::run_label;
 use vc_plan::CheckRefused;
 use vc_reader::ReadRefused;
@@ -155,14 +156,59 @@ fn tell_line_fault<W: Write>(alloc: Global, fault: &LineFault, writer: &mut W) -
     }
 }
 
-/// Checks the network that the reader has.
-fn check_by<R: Read, W: Write>(alloc: Global, reader: &mut R, writer: &mut W) -> u8
-    ensures { ChecksNetwork (R.remaining reader.old) (W.contents writer.old) (W.contents writer.new)
+/// Writes a line in this form for a status. The status is that, or that of a fault in writing.
+fn tell_line<W: Write>(alloc: Global, form: Form, line: &[u8], status: u8, writer: &mut W) -> u8
+    ensures { Tells (W.contents writer.old) (W.contents writer.new) (line_in form line.now) status
         result }
 {
-    match run_check(alloc, reader, writer) {
+    match form {
+        Form::Lines => tell_text(line, status, writer),
+        Form::Json => {
+            if let Err(later) = write_line_json(alloc, line, writer) {
+                return status_of(&later);
+            }
+            status
+        }
+    }
+}
+
+/// Writes a fault in this form. The status is that of the fault, or of a later one in writing it.
+fn tell_fault_in<W: Write>(alloc: Global, form: Form, fault: RunFault, writer: &mut W) -> u8
+    ensures { TellsFaultIn form (W.contents writer.old) (W.contents writer.new) fault result }
+{
+    match form {
+        Form::Lines => tell_fault(alloc, fault, writer),
+        Form::Json => match write_fault_json(alloc, &fault, writer) {
+            Ok(()) => status_of(&fault),
+            Err(later) => status_of(&later),
+        },
+    }
+}
+
+/// Checks the network that the reader has, and writes the answer in this form.
+fn write_check<R: Read, W: Write>(
+    alloc: Global,
+    reader: &mut R,
+    writer: &mut W,
+    form: Form,
+) -> Result<(), RunFault>
+    ensures { ChecksIn form (R.remaining reader.old)
+        (W.contents writer.old) (W.contents writer.new) result }
+{
+    match form {
+        Form::Lines => run_check(alloc, reader, writer),
+        Form::Json => run_check_json(alloc, reader, writer),
+    }
+}
+
+/// Checks the network that the reader has.
+fn check_by<R: Read, W: Write>(alloc: Global, reader: &mut R, writer: &mut W, form: Form) -> u8
+    ensures { ChecksNetwork form (R.remaining reader.old)
+        (W.contents writer.old) (W.contents writer.new) result }
+{
+    match write_check(alloc, reader, writer, form) {
         Ok(()) => DONE,
-        Err(fault) => tell_fault(alloc, fault, writer),
+        Err(fault) => tell_fault_in(alloc, form, fault, writer),
     }
 }
 
@@ -184,14 +230,30 @@ fn explain_by<R: Read, W: Write>(alloc: Global, reader: &mut R, writer: &mut W) 
     }
 }
 
-/// Shows a cycle of dependencies along which packets of the network that the reader has might wait for one another, or that there is none.
-fn deadlock_by<R: Read, W: Write>(alloc: Global, reader: &mut R, writer: &mut W) -> u8
-    ensures { FindsDeadlock (R.remaining reader.old)
+/// Writes in this form whether the network that the reader has is free.
+fn write_deadlock<R: Read, W: Write>(
+    alloc: Global,
+    reader: &mut R,
+    writer: &mut W,
+    form: Form,
+) -> Result<bool, RunFault>
+    ensures { TellsDeadlockIn form (R.remaining reader.old)
         (W.contents writer.old) (W.contents writer.new) result }
 {
-    match run_deadlock(alloc, reader, writer) {
+    match form {
+        Form::Lines => run_deadlock(alloc, reader, writer),
+        Form::Json => run_deadlock_json(alloc, reader, writer),
+    }
+}
+
+/// Shows a cycle of dependencies along which packets of the network that the reader has might wait for one another, or that there is none.
+fn deadlock_by<R: Read, W: Write>(alloc: Global, reader: &mut R, writer: &mut W, form: Form) -> u8
+    ensures { FindsDeadlock form (R.remaining reader.old)
+        (W.contents writer.old) (W.contents writer.new) result }
+{
+    match write_deadlock(alloc, reader, writer, form) {
         Ok(free) => status_of_freedom(free),
-        Err(fault) => tell_fault(alloc, fault, writer),
+        Err(fault) => tell_fault_in(alloc, form, fault, writer),
     }
 }
 
@@ -222,63 +284,70 @@ fn explore_by<R: Read, W: Write>(
 {
     match run_explore(alloc, reader, writer, states as usize, form, meter) {
         Ok(finding) => status_of_finding(finding),
-        Err(fault) => tell_fault(alloc, fault, writer),
+        Err(fault) => tell_fault_in(alloc, form, fault, writer),
     }
 }
 
 /// Writes the whole file of the network that the reader has without its labelling, or what is wrong with it.
-fn label_by<R: Read, W: Write>(alloc: Global, reader: &mut R, writer: &mut W) -> u8
-    ensures { LabelsNetwork (R.remaining reader.old) (W.contents writer.old) (W.contents writer.new)
-        result }
+fn label_by<R: Read, W: Write>(alloc: Global, reader: &mut R, writer: &mut W, form: Form) -> u8
+    ensures { LabelsNetwork form (R.remaining reader.old)
+        (W.contents writer.old) (W.contents writer.new) result }
 {
     match run_label(alloc, reader, writer) {
         Ok(()) => DONE,
-        Err(fault) => tell_fault(alloc, fault, writer),
+        Err(fault) => tell_fault_in(alloc, form, fault, writer),
     }
 }
 
 /// Writes the network that the reader has as Graphviz text.
-fn draw_plan_by<R: Read, W: Write>(alloc: Global, reader: &mut R, writer: &mut W) -> u8
-    ensures { DrawsNetwork None (R.remaining reader.old)
+fn draw_plan_by<R: Read, W: Write>(
+    alloc: Global,
+    reader: &mut R,
+    writer: &mut W,
+    vlinks: VlinkLines,
+) -> u8
+    ensures { DrawsNetwork None vlinks (R.remaining reader.old)
         (W.contents writer.old) (W.contents writer.new) result }
 {
-    match run_draw(alloc, reader, writer) {
+    match run_draw(alloc, reader, writer, vlinks) {
         Ok(()) => DONE,
         Err(fault) => tell_fault(alloc, fault, writer),
     }
 }
 
-/// Writes the network that the reader has as Graphviz text, with its state after at most so many events.
+/// Writes the network that the reader has as Graphviz text, with its state after a run.
 fn draw_state_by<R: Read, W: Write>(
     alloc: Global,
     reader: &mut R,
     writer: &mut W,
-    after: u64,
+    options: StateOptions,
+    vlinks: VlinkLines,
     meter: &Meter,
 ) -> u8
-    ensures { DrawsNetwork (Some after) (R.remaining reader.old)
+    ensures { DrawsNetwork (Some options) vlinks (R.remaining reader.old)
         (W.contents writer.old) (W.contents writer.new) result }
 {
-    match run_draw_after(alloc, reader, writer, after, meter) {
+    match run_draw_after(alloc, reader, writer, options, vlinks, meter) {
         Ok(_) => DONE,
         Err(fault) => tell_fault(alloc, fault, writer),
     }
 }
 
-/// Writes the network that the reader has as Graphviz text, with its state after so many events or without.
+/// Writes the network that the reader has as Graphviz text, with its state after a run or without.
 fn draw_by<R: Read, W: Write>(
     alloc: Global,
     reader: &mut R,
     writer: &mut W,
-    after: Option<u64>,
+    state: Option<StateOptions>,
+    vlinks: VlinkLines,
     meter: &Meter,
 ) -> u8
-    ensures { DrawsNetwork after (R.remaining reader.old)
+    ensures { DrawsNetwork state vlinks (R.remaining reader.old)
         (W.contents writer.old) (W.contents writer.new) result }
 {
-    match after {
-        Some(after) => draw_state_by(alloc, reader, writer, after, meter),
-        None => draw_plan_by(alloc, reader, writer),
+    match state {
+        Some(options) => draw_state_by(alloc, reader, writer, options, vlinks, meter),
+        None => draw_plan_by(alloc, reader, writer, vlinks),
     }
 }
 
@@ -430,12 +499,12 @@ fn do_line<T: NamedFiles + Threads + Wait + Sync, R: Read, W: Write>(
         (R.remaining reader.old) (W.contents writer.old) (W.contents writer.new) result }
 {
     match line {
-        Line::Check => check_by(alloc, reader, writer),
+        Line::Check { form } => check_by(alloc, reader, writer, form),
         Line::Explain => explain_by(alloc, reader, writer),
-        Line::Deadlock => deadlock_by(alloc, reader, writer),
+        Line::Deadlock { form } => deadlock_by(alloc, reader, writer, form),
         Line::Explore { states, form } => explore_by(alloc, reader, writer, states, form, meter),
-        Line::Label => label_by(alloc, reader, writer),
-        Line::Draw { after } => draw_by(alloc, reader, writer, after, meter),
+        Line::Label { form } => label_by(alloc, reader, writer, form),
+        Line::Draw { state, vlinks } => draw_by(alloc, reader, writer, state, vlinks, meter),
         Line::Step { options, account } => {
             step_by(alloc, reader, writer, options, account, meter)
         }
@@ -443,6 +512,16 @@ fn do_line<T: NamedFiles + Threads + Wait + Sync, R: Read, W: Write>(
             run_by(rt, alloc, reader, writer, options, account, meter)
         }
         Line::Replay { is_why } => replay_by(rt, alloc, words, reader, writer, is_why, meter),
+    }
+}
+
+/// The form in which a line asks for refusals.
+fn form_of(line: Line) -> Form
+    ensures { result ≡ form_of_line line }
+{
+    match line {
+        Line::Check { form } | Line::Deadlock { form } | Line::Label { form } => form,
+        _ => Form::Lines,
     }
 }
 
@@ -466,7 +545,7 @@ fn do_file<T: NamedFiles + Threads + Wait + Sync, W: Write>(
             let mut file = file;
             do_line(rt, alloc, words, line, &mut file, writer, meter)
         }
-        None => tell_text(b"fault file\n", BAD_STREAM, writer),
+        None => tell_line(alloc, form_of(line), b"fault file\n", BAD_STREAM, writer),
     }
 }
 

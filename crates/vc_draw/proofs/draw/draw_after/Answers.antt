@@ -6,7 +6,6 @@ use Rattle.vc_draw.specs.State.{IsStateDrawing, IsStateGraph}
 use Rattle.vc_plan.specs.declared.plan.Plan.{Plan}
 use Rattle.vc_text.specs.Streams.{Writes}
 use Rattle.vc_text.proofs.StepText.{run_unwritten, writes_one}
-use Rattle.vc_text.specs.declared.schedule.Schedule.TheVariants.{InTurn}
 use Rattle.vc_draw.proofs.draw.draw_after.Goals as goal
 
 pub state_graph-requires : goal.state_graph-requires
@@ -24,6 +23,6 @@ returns g c =
     let new = g.W.Write.contents c.write_text.new.writer in
     let ran = c.in_ok-network.ensures.run in
     let text = c.in_ok-text.text.items in
-    let is = subst (λ (q : Plan). IsStateGraph q x text) c.plan.ensures.plan c.in_ok-text.ensures in
+    let is = subst (λ (q : Plan). IsStateGraph c.args.vlinks q x text) c.plan.ensures.plan c.in_ok-text.ensures in
     let wrote = subst (λ t. Writes old new t (Err c.in-Err.fault)) c.as_slice.ensures.value c.in-Err.ensures in
-    run_unwritten IsStateDrawing old new InTurn c.args.limit p ran.0 x close c.in-Err.fault ran.1 (writes_one (IsStateDrawing p ran.0 x close) old new text (Err c.in-Err.fault) is wrote)
+    run_unwritten (IsStateDrawing c.args.vlinks) old new c.args.options.schedule c.args.options.limit p ran.0 x close c.in-Err.fault ran.1 (writes_one (IsStateDrawing c.args.vlinks p ran.0 x close) old new text (Err c.in-Err.fault) is wrote)

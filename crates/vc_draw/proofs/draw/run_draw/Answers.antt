@@ -1,7 +1,7 @@
-use Rattle.vc_draw.specs.Graph.{graph_text, no_labels}
-use Rattle.vc_plan.specs.declared.plan.Plan.{Plan}
-use Rattle.vc_text.proofs.CheckText.{tells_accepted}
+use Rattle.vc_draw.proofs.Drawn.{writes_graph}
 use Rattle.vc_draw.proofs.draw.run_draw.Goals as goal
 
 pub returns : goal.returns
-returns g c = tells_accepted (λ (plan : Plan). graph_text plan no_labels) _ _ _ c.in_ok-accepted.accepted _ c.in_ok-accepted.ensures (rw c.plan.ensures.plan at c.write_graph.ensures)
+returns g c =
+    writes_graph c.args.vlinks (g.R.Read.remaining c.args.reader.now) (g.W.Write.contents c.args.writer.now) _ c.in_ok-accepted.accepted c.in_ok-text.text.items _ c.in_ok-accepted.ensures c.in_ok-text.ensures
+    (rw c.as_slice.ensures.value at c.write_text.ensures)

@@ -9,10 +9,10 @@ use Rattle.vc_words.proofs.definition.definition.Goals as goal
 
 pub returns-clause-app : goal.returns-clause-app
 returns-clause-app c =
-    let check_is : shape_of c.in_ok-check.check ≡ check_shape = ap (λ (a : App). a.top) c.in_ok-check.ensures.app in
+    let check_is : shape_of c.in_ok-check.check ≡ check_shape = c.in_ok-check.ensures.shape in
     let explain_is : shape_of c.in_ok-explain.explain ≡ explain_shape = ap (λ (a : App). a.top) c.in_ok-explain.ensures.app in
-    let deadlock_is : shape_of c.in_ok-deadlock.deadlock ≡ deadlock_shape = ap (λ (a : App). a.top) c.in_ok-deadlock.ensures.app in
-    let label_is : shape_of c.in_ok-label.label ≡ label_shape = ap (λ (a : App). a.top) c.in_ok-label.ensures.app in
+    let deadlock_is : shape_of c.in_ok-deadlock.deadlock ≡ deadlock_shape = c.in_ok-deadlock.ensures.shape in
+    let label_is : shape_of c.in_ok-label.label ≡ label_shape = c.in_ok-label.ensures.shape in
     let top_is : app_of c.subcommand_required.result ≡ on_top (λ s. record s { subcommand_required = true; has_version = true }) (new_app (codes "vcnet")) =
     ap app_of_fields c.subcommand_required.ensures ∙ ap (on_top (λ s. record s { subcommand_required = true })) (ap app_of_fields c.version.ensures ∙ ap (on_top (λ s. record s { has_version = true }))
     (ap app_of_fields c.after_help.ensures ∙ ap app_of_fields c.about.ensures ∙ c.new.ensures.app)) in

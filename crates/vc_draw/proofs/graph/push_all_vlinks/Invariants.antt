@@ -1,7 +1,7 @@
 use Rattle.std.proofs.Common.{◌≡◌, ◌++◌, drop}
 use Rattle.std.specs.List.{enumerate_from, flat_map}
 use Rattle.vc_draw.specs.Graph.{vlink_line}
-use Rattle.vc_draw.proofs.graph.push_vlinks.Given as goal
+use Rattle.vc_draw.proofs.graph.push_all_vlinks.Given as goal
 
 abbrev pub invariant-loop-n : goal.invariant-loop-n
 invariant-loop-n l =
