@@ -2,6 +2,7 @@
 use Rattle.std.specs.Prelude.{◌≡◌, ℕ, List, Option, Some, None, Result, Ok, Err}
 use Rattle.std.specs.Io.KnownBytes.{Appends}
 use Rattle.vc_explore.specs.Explored.{IsVerdict}
+use Rattle.vc_explore.specs.declared.explored.Ends.TheVariants.{Always}
 use Rattle.vc_explore.specs.declared.explored.Explored.{Explored}
 use Rattle.vc_explore.specs.declared.explored.Verdict.{Verdict}
 use Rattle.vc_explore.specs.declared.explored.Verdict.TheVariants.{NeverStuck, Stuck, NotStuckWithin}
@@ -9,6 +10,8 @@ use Rattle.vc_explore_text.specs.declared.finding.Finding.{Finding}
 use Rattle.vc_explore_text.specs.declared.finding.Finding.TheVariants.{Free, MayStop, Open}
 use Rattle.vc_explore_text.specs.ExploredJson.{explored_json}
 use Rattle.vc_explore_text.specs.ExploredText.{explored_text}
+use Rattle.vc_free.specs.NeverStuck.{NeverStops}
+use Rattle.vc_meaning.specs.Endings.{AlwaysEnds}
 use Rattle.vc_plan.specs.declared.plan.Plan.{Plan as Network}
 use Rattle.vc_plan.specs.declared.port.Port.{Port}
 use Rattle.vc_stats.specs.declared.form.Form.{Form}
@@ -31,10 +34,13 @@ abbrev pub text_in : Form → Network → Explored → Option (List Port) → Li
 text_in Lines plan explored cycle = explored_text plan explored cycle
 text_in Json plan explored cycle = explored_json plan explored cycle
 
--- what was found is so
+-- What was found is so. If the program is never stuck and the wires have no cycle, then of this network, wherever a run has come, if no
+-- event can happen all processes have ended; and if each schedule ends too, no events of it go on for ever.
 pub record IsExploration (plan : Network) (explored : Explored) (cycle : Option (List Port)) : Type 0 where
   pub verdict : IsVerdict plan explored.verdict
   pub wires : IsFound plan cycle
+  pub never_stops : finding_of explored.verdict cycle ≡ Free → NeverStops plan
+  pub always_ends : explored.verdict ≡ NeverStuck Always → cycle ≡ None → AlwaysEnds plan
 
 -- The text of an accepted network was written, or a prefix of them before a fault of the writer; else nothing was. The answer is what
 -- is known of its runs.

@@ -27,4 +27,6 @@ pub mod Rest
 pub mod Quiet
 pub mod PlanChannels
 pub mod Schedules
+pub mod ByMoves
+pub mod Agreement
 pub mod NeverStuck

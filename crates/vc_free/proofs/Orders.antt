@@ -60,7 +60,7 @@ part_more c ((n, k) ∷ xs) ys = by_test (nat_eq (to_channel k).0 c) (part_more 
     by_test true rest = ap (λ z. (to_channel k).1 ∷ z) rest
     by_test false rest = rest
 
-all_more : (hs gs : List Atomic) → all_comms (hs ++ gs) ≡ all_comms hs ++ all_comms gs
+pub all_more : (hs gs : List Atomic) → all_comms (hs ++ gs) ≡ all_comms hs ++ all_comms gs
 all_more [] gs = refl
 all_more (h ∷ hs) gs = ap (λ z. comms_of h ++ z) (all_more hs gs) ∙ sym (append_assoc (comms_of h) (all_comms hs) (all_comms gs))
 

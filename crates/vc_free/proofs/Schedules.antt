@@ -127,10 +127,10 @@ own_end {s} {t} {i} {j} {c} there st l = subst (λ z. StepsTo s z action.Finish 
 
 -- ---- parts of a list
 
-by_here : (n : ℕ) (k : Comm) (ks : List (ℕ × Comm)) → by n ((n, k) ∷ ks) ≡ k ∷ by n ks
+pub by_here : (n : ℕ) (k : Comm) (ks : List (ℕ × Comm)) → by n ((n, k) ∷ ks) ≡ k ∷ by n ks
 by_here n k ks = ap (λ b. if b then k ∷ by n ks else by n ks) (eq-eqb n n refl)
 
-by_past : (n m : ℕ) (k : Comm) (ks : List (ℕ × Comm)) → (m ≡ n → ⊥) → by n ((m, k) ∷ ks) ≡ by n ks
+pub by_past : (n m : ℕ) (k : Comm) (ks : List (ℕ × Comm)) → (m ≡ n → ⊥) → by n ((m, k) ∷ ks) ≡ by n ks
 by_past n m k ks ne = ap (λ b. if b then k ∷ by n ks else by n ks) (ne_eqb m n ne)
 
 -- ---- what a channel shows

@@ -56,6 +56,18 @@ pub record IsScheduled (p : Plan) (stands : ℕ → State) (shown : ℕ → View
 abbrev pub ListsAreSchedules : Type 0
 ListsAreSchedules = (p : Plan) (hs : List Atomic) (stands : ℕ → State) (shown : ℕ → View) → IsAccepted p → ComesTo p hs stands shown → IsScheduled p stands shown
 
+-- what a channel of the program shows: each message that passed was offered, taken and finished
+abbrev pub shown_by : Program → ℕ → View
+shown_by s c = record { offered = s.passed c; taken = s.passed c; finished = length (s.passed c); stopped = s.stopped c }
+
+-- and what a schedule leads to, they come to by a list of communications
+abbrev pub SchedulesAreLists : Type 0
+SchedulesAreLists = (p : Plan) (ms : List program.Move) (s : Program) → IsAccepted p → Reaches p ms s → (hs : List Atomic) × ComesTo p hs s.part (shown_by s)
+
+-- so the program of an accepted plan is never stuck by lists of communications exactly if no schedule of its moves gets stuck
+abbrev pub ProgramAndListsAgree : Type 0
+ProgramAndListsAgree = (p : Plan) → IsAccepted p → NeverStuck p ↔ program.NeverStuck p
+
 -- no event can happen
 abbrev pub IsAtRest : Plan → Waiting → Network (Actor Process) Token → Type 0
 IsAtRest p waiting s = (e : ActBy Act) → IsEnabled (network_of p) waiting does s e → ⊥

@@ -13,7 +13,9 @@ ghost use Rattle.vc_free.specs.NeverStuck.{
   FreePlacementsNeverStop,
   ListsAreSchedules,
   NeverStuckAnywhere,
+  ProgramAndListsAgree,
   QuietNetworksAreOutcomes,
+  SchedulesAreLists,
 };
 ghost use Rattle.vc_free.specs.Placements.{FreePlacementsDoTheSame};
 ghost use Rattle.vc_free.specs.Rest.{QuietNetworksAreQuiet};
@@ -68,6 +70,17 @@ pub fn never_stuck_anywhere()
 /// to by its moves (`vc_program`): to the same states, with the same channels stopped and the same messages passed.
 pub fn lists_are_schedules()
     ensures { ListsAreSchedules }
+{}
+
+/// What a schedule of the program of an accepted plan leads to, its processes come to by a list of communications, each message at one
+/// moment. So schedules and lists of communications say the same of a program.
+pub fn schedules_are_lists()
+    ensures { SchedulesAreLists }
+{}
+
+/// The program of an accepted plan is never stuck by lists of communications exactly if no schedule of its moves gets stuck.
+pub fn program_and_lists_agree()
+    ensures { ProgramAndListsAgree }
 {}
 
 /// A program of which no schedule gets stuck stops on no free placement. If no schedule of the program of an accepted plan gets stuck, as
