@@ -15,7 +15,7 @@ pub use labelling::is_well_labelled;
 pub use line::over_a_line;
 pub use number::number_taken;
 pub use pair::pair;
-pub use rest::close_of_run;
+pub use rest::{close_of_run, is_never_quiet};
 pub use rounds::make_rounds;
 pub use scheduler::try_event;
 pub use threads::{OpenGate, left_by_threads, stops_behind_an_open_gate, stops_until_ended};
