@@ -1,5 +1,5 @@
 //! What the words of a command line ask for.
-ghost use Rattle.std.specs.Prelude.{◌≡◌, ◌<◌, ◌≤◌, ◌×◌, IfOk, IfErr, IfSome, option_map};
+ghost use Rattle.std.specs.Prelude.{◌≡◌, ◌<◌, ◌≤◌, IfOk, IfErr, IfSome, option_map};
 ghost use Rattle.clap.specs.Words.{found_of, kind_of, rows_of, subcommand_rows_of};
 ghost use Rattle.clap.specs.Walk.{texts};
 ghost use Rattle.vc_words.specs.CommandLine.{account_of, has_flag, line_of as line_for, number_at, number_of, schedule_in as schedule_named, schedule_of, state_options_of, states_of, step_options_of, vlink_lines_of, thread_options_of, faults, form_of, Asks, counted_of, progress_of, shows_progress, HasFound, IsFaultOf, IsInRange, IsToldAs, NamesEvents, NamesNetwork, text_in as text_of_argument};
