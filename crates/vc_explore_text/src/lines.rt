@@ -278,15 +278,13 @@ fn push_ends(
     ensures { OnOk result (out.new.items ≡ out.old.items ++ ends_text plan.now all.now ends.now) }
 {
     match ends {
-        Ends::Always => {
-            out.extend_from_slice(b"always ends\n")?;
-            Ok(())
-        }
+        Ends::Always => out.extend_from_slice(b"always ends\n")?,
         Ends::MayGoOn { moves, circle } => {
             push_count(out, b"may go on for ever after ", *moves)?;
-            push_moves(alloc, out, plan, all, circle.as_slice())
+            push_moves(alloc, out, plan, all, circle.as_slice())?;
         }
     }
+    Ok(())
 }
 
 /// The lines of a program that never gets stuck.
