@@ -18,7 +18,7 @@ import sys
 ROOT = os.path.dirname(os.path.dirname(os.path.dirname(os.path.abspath(__file__))))
 PAGES = ["docs/FORMAT.md", "docs/REFUSALS.md", "docs/COMMANDS.md"]
 TUTORIAL = "docs/TUTORIAL.md"
-PRINTED = re.compile(r"(channel|refused|cycle|free|graph|accepted|event|end)\b")
+PRINTED = re.compile(r"(channel|refused|cycle|free|graph|accepted|message|event|end)\b")
 # What the examples of the pages must show: words of processes, operators, relations, connectives, bytes.
 WORDS = '"skip" "stop" "set" "out" "in" "stopch" "seq" "par" "if" "while" "for" "alt" "+" "-" "*" "/" "\\\\" "size" "=" "<>" "<" ">" "<=" ">="'
 WORDS += ' "and" "or" "not" true false "hex" "text" "fill" "table" "delete" "random" "portal" "vars" "vlink" "way" "node" "wires"'

@@ -20,6 +20,7 @@ lines = record {
   together = (refl, refl);
   why = (refl, refl);
   trace = (refl, refl);
+  messages = (refl, refl);
   schedule = (refl, refl);
   run = (refl, refl);
   run_trace = (refl, refl);

@@ -27,7 +27,7 @@ use Rattle.vc_stats.specs.declared.form.Form.TheVariants.{Lines, Json as FormJso
 use Rattle.vc_words.specs.declared.account.Account.{Account}
 use Rattle.vc_words.specs.declared.account.Account.TheVariants.{Traffic, Events, Counts, Json}
 use Rattle.vc_words.specs.declared.line.Line.{Line}
-use Rattle.vc_words.specs.declared.line.Line.TheVariants.{Check, Explain, Deadlock, Label, Draw, Step, Run, Replay}
+use Rattle.vc_words.specs.declared.line.Line.TheVariants.{Check, Explain, Deadlock, Label, Draw, Step, Messages, Run, Replay}
 use Rattle.vc_words.specs.declared.line_fault.LineFault.{LineFault}
 use Rattle.vc_words.specs.declared.line_fault.LineFault.TheVariants.{Bad, Memory}
 use Rattle.vc_words.specs.declared.progress.Progress.{Progress}
@@ -70,6 +70,9 @@ needed_of name = record (new_rule name) { long = Some name; value_names = 1; req
 
 abbrev pub events_option : Rule
 events_option = needed_of (codes "events")
+
+abbrev pub messages_flag : Rule
+messages_flag = flag_of (codes "messages")
 
 abbrev pub no_vlinks_flag : Rule
 no_vlinks_flag = flag_of (codes "no-vlinks")
@@ -124,7 +127,7 @@ abbrev pub run_flags : List Rule
 run_flags = why_flag ∷ trace_flag ∷ stats_flag ∷ json_flag ∷ progress_flags
 
 abbrev pub step_shape : Shape
-step_shape = subcommand_of_rules (codes "step") (limit_option ∷ schedule_option ∷ together_flag ∷ run_flags)
+step_shape = subcommand_of_rules (codes "step") (limit_option ∷ schedule_option ∷ together_flag ∷ messages_flag ∷ run_flags)
 
 abbrev pub run_shape : Shape
 run_shape = subcommand_of_rules (codes "run") (turns_option ∷ seed_option ∷ run_flags)
@@ -199,10 +202,14 @@ account_of rows =
     else (if has_flag (codes "stats") rows then Counts (form_of rows)
     else (if has_flag (codes "json") rows then Json else Traffic))
 
+-- what `step` prints: its messages if they are asked for, whatever else is
+abbrev pub step_line : List Row → Line
+step_line rows = if has_flag (codes "messages") rows then Messages (step_options_of rows) else Step (step_options_of rows) (account_of rows)
+
 -- what a subcommand and what was found of its options ask for
 abbrev pub line_of : Text × List Row → Line
 line_of (name, rows) =
-    if bytes_eq name (codes "step") then Step (step_options_of rows) (account_of rows)
+    if bytes_eq name (codes "step") then step_line rows
     else (if bytes_eq name (codes "run") then Run (thread_options_of rows) (account_of rows)
     else (if bytes_eq name (codes "replay") then Replay (has_flag (codes "why") rows)
     else (if bytes_eq name (codes "draw") then Draw (state_options_of rows) (vlink_lines_of rows)
@@ -232,6 +239,7 @@ NamesNetwork words name = text_in (codes "file") words ≡ name
 -- what is counted of a run while it goes on, and its limit
 abbrev pub counted_of : Line → Option Progress
 counted_of (Step options account) = Some (record { unit = EventsMade; most = Some options.limit })
+counted_of (Messages options) = Some (record { unit = EventsMade; most = Some options.limit })
 counted_of (Run options account) = Some (record { unit = TurnsMade; most = Some options.turns })
 counted_of (Replay is_why) = Some (record { unit = EventsMade; most = None })
 counted_of line = None
@@ -276,5 +284,6 @@ IsInRange (Label form) = ⊤
 IsInRange (Draw None vlinks) = ⊤
 IsInRange (Draw (Some options) vlinks) = options.limit ≤ 1000000000
 IsInRange (Step options account) = options.limit ≤ 1000000000
+IsInRange (Messages options) = options.limit ≤ 1000000000
 IsInRange (Run options account) = options.turns ≤ 1000000000
 IsInRange (Replay is_why) = ⊤

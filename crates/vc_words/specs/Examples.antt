@@ -9,7 +9,7 @@ use Rattle.vc_text.specs.declared.thread_options.ThreadOptions.{ThreadOptions}
 use Rattle.vc_words.specs.CommandLine.{Asks, NamesNetwork, faults}
 use Rattle.vc_stats.specs.declared.form.Form.TheVariants.{Lines, Json as FormJson}
 use Rattle.vc_words.specs.declared.account.Account.TheVariants.{Traffic, Events, Counts}
-use Rattle.vc_words.specs.declared.line.Line.TheVariants.{Check, Explain, Deadlock, Label, Draw, Step, Run, Replay}
+use Rattle.vc_words.specs.declared.line.Line.TheVariants.{Check, Explain, Deadlock, Label, Draw, Step, Messages, Run, Replay}
 
 -- the program's name, and then the other words
 abbrev pub line : List Text → List Text
@@ -37,6 +37,7 @@ pub record LinesAreRead : Type 0 where
   pub together : Asks (line (codes "step" ∷ codes "--together" ∷ [])) (Step (record usual { is_together = true }) Traffic)
   pub why : Asks (line (codes "step" ∷ codes "--why" ∷ [])) (Step (record usual { is_why = true }) Traffic)
   pub trace : Asks (line (codes "step" ∷ codes "--trace" ∷ [])) (Step usual Events)
+  pub messages : Asks (line (codes "step" ∷ codes "--messages" ∷ codes "--why" ∷ [])) (Messages (record usual { is_why = true }))
   pub schedule : Asks (line (codes "step" ∷ codes "--schedule" ∷ codes "5" ∷ [])) (Step (record usual { schedule = Random 5 }) Traffic)
   pub run : Asks (line (codes "run" ∷ codes "--seed=3" ∷ codes "--turns=9" ∷ [])) (Run (record usual_threads { turns = 9; seed = 3 }) Traffic)
   pub run_trace : Asks (line (codes "run" ∷ codes "--trace" ∷ [])) (Run usual_threads Events)

@@ -7,6 +7,7 @@ use Rattle.vc_text.specs.FaultLine.{fault_text}
 use Rattle.vc_json.specs.Answers.{ChecksJson, TellsDeadlockJson}
 use Rattle.vc_json.specs.Words.{line_json}
 use Rattle.vc_label_run.specs.Labels.{Labels}
+use Rattle.vc_messages.specs.Messages.{IsMessagesText}
 use Rattle.vc_draw.specs.Graph.{WritesGraph}
 use Rattle.vc_core.specs.declared.close.Close.{Close}
 use Rattle.vc_text.specs.OneNode.{ReadsAs}
@@ -37,7 +38,7 @@ use Rattle.clap.specs.Walk.{Text}
 use Rattle.clap.specs.Kinds.{IsAmong}
 use Rattle.clap.specs.declared.error.kind.ErrorKind.{ErrorKind}
 use Rattle.vc_words.specs.declared.line.Line.{Line}
-use Rattle.vc_words.specs.declared.line.Line.TheVariants.{Check, Explain, Deadlock, Label, Draw, Step, Run, Replay}
+use Rattle.vc_words.specs.declared.line.Line.TheVariants.{Check, Explain, Deadlock, Label, Draw, Step, Messages, Run, Replay}
 use Rattle.vc_words.specs.CommandLine.{Asks, IsInRange, NamesEvents, NamesNetwork, faults, status_of_kind}
 use Rattle.vc_words.specs.Status.{status_of_acceptance, status_of_fault, status_of_freedom, status_of_end, status_of_replay}
 
@@ -130,6 +131,13 @@ StepsNetwork options account known old new status =
     ((close : Close) × Steps old new options.schedule options.limit (Ok close) × (status ≡ status_of_end close))
     ⊎ ((fault : RunFault) × (mid : Option (List ℕ)) × Steps old mid options.schedule options.limit (Err fault) × TellsFault mid new fault status)
 
+-- and so, with a line for each message before its traffic
+abbrev pub ListsMessages : StepOptions → Option (List ℕ) → Option (List ℕ) → Option (List ℕ) → ℕ → Type 0
+ListsMessages options known old new status =
+    let Lists = WritesRunBy (IsMessagesText options.is_why) (ReadsAs options.is_together known) in
+    ((close : Close) × Lists old new options.schedule options.limit (Ok close) × (status ≡ status_of_end close))
+    ⊎ ((fault : RunFault) × (mid : Option (List ℕ)) × Lists old mid options.schedule options.limit (Err fault) × TellsFault mid new fault status)
+
 -- in threads, so too
 abbrev pub RunsNetwork : ThreadOptions → Account → Option (List ℕ) → Option (List ℕ) → Option (List ℕ) → ℕ → Type 0
 RunsNetwork options account known old new status =
@@ -178,6 +186,7 @@ Does files words (Deadlock form) known old new status = FindsDeadlock form known
 Does files words (Label form) known old new status = LabelsNetwork form known old new status
 Does files words (Draw state vlinks) known old new status = DrawsNetwork state vlinks known old new status
 Does files words (Step options account) known old new status = StepsNetwork options account known old new status
+Does files words (Messages options) known old new status = ListsMessages options known old new status
 Does files words (Run options account) known old new status = RunsNetwork options account known old new status
 Does files words (Replay is_why) known old new status = ReplaysNetwork files words is_why known old new status
 

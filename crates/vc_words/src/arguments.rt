@@ -2,7 +2,7 @@
 ghost use Rattle.std.specs.Prelude.{◌≡◌, ◌≤◌, IfOk, IfErr, IfSome, option_map};
 ghost use Rattle.clap.specs.Words.{found_of, kind_of, rows_of, subcommand_rows_of};
 ghost use Rattle.clap.specs.Walk.{texts};
-ghost use Rattle.vc_words.specs.CommandLine.{account_of, has_flag, line_of as line_for, number_at, number_of, schedule_in as schedule_named, schedule_of, state_options_of, step_options_of, vlink_lines_of, thread_options_of, faults, form_of, Asks, counted_of, progress_of, shows_progress, HasFound, IsFaultOf, IsInRange, IsToldAs, NamesEvents, NamesNetwork, text_in as text_of_argument};
+ghost use Rattle.vc_words.specs.CommandLine.{account_of, has_flag, line_of as line_for, number_at, number_of, schedule_in as schedule_named, schedule_of, state_options_of, step_line as step_line_for, step_options_of, vlink_lines_of, thread_options_of, faults, form_of, Asks, counted_of, progress_of, shows_progress, HasFound, IsFaultOf, IsInRange, IsToldAs, NamesEvents, NamesNetwork, text_in as text_of_argument};
 
 use crate::account::Account;
 use crate::definition::definition;
@@ -157,16 +157,28 @@ fn account(matches: &ArgMatches<'_>) -> Account
     }
 }
 
+/// What the matches of `step` ask for.
+fn step_line(matches: &ArgMatches<'_>) -> Line
+    ensures line { result ≡ step_line_for (rows_of (found_of matches.now)) }
+    ensures range { IsInRange result }
+{
+    let options = step_options(matches);
+    if is_set(matches, "messages") {
+        return Line::Messages { options };
+    }
+    Line::Step {
+        options,
+        account: account(matches),
+    }
+}
+
 /// What the matches ask for.
 fn line_of(matches: &ArgMatches<'_>) -> Line
     ensures line { IfSome (subcommand_rows_of matches.now) (λ found. result ≡ line_for found) }
     ensures range { IsInRange result }
 {
     match matches.subcommand() {
-        Some(("step", inner)) => Line::Step {
-            options: step_options(inner),
-            account: account(inner),
-        },
+        Some(("step", inner)) => step_line(inner),
         Some(("run", inner)) => Line::Run {
             options: thread_options(inner),
             account: account(inner),
@@ -266,7 +278,7 @@ fn counted(line: Line) -> Option<Progress>
     ensures { result ≡ counted_of line }
 {
     match line {
-        Line::Step { options, .. } => Some(Progress {
+        Line::Step { options, .. } | Line::Messages { options } => Some(Progress {
             unit: Unit::Events,
             most: Some(options.limit),
         }),

@@ -122,6 +122,10 @@ const DRAW_SCHEDULE: &str =
 /// What `--no-vlinks` asks for.
 const NO_VLINKS: &str = "Leaves out the virtual links";
 
+/// What `--messages` asks for.
+const MESSAGES: &str =
+    "Prints the messages of all channels in order, a line each, before the traffic; --trace, --stats and --json add nothing then";
+
 /// What `--trace` asks for.
 const TRACE: &str =
     "Prints the events of the run, a line each, before its traffic; --stats and --json add nothing then";
@@ -304,6 +308,7 @@ fn step_definition<'a>(alloc: Global) -> Result<Command<'a>, AllocError>
         .arg(limit)?
         .arg(schedule)?
         .arg(together)?
+        .arg(flag(alloc, "messages", MESSAGES))?
         .arg(flag(alloc, "why", WHY))?
         .arg(flag(alloc, "trace", TRACE))?
         .arg(flag(alloc, "stats", STATS))?

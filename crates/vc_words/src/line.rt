@@ -38,6 +38,11 @@ pub enum Line {
         /// What is written of it.
         account: Account,
     },
+    /// To run the network event by event, and to print its messages, in the order in which they were taken, and then its traffic.
+    Messages {
+        /// How it is run, as by `step`.
+        options: StepOptions,
+    },
     /// To run the network with a thread for each node and each switch, and to print its traffic.
     Run {
         /// How it is run: each thread makes at most 1,000,000,000 turns, and 10,000,000 if the words say nothing; the seed is 0 if

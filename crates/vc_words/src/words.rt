@@ -5,7 +5,7 @@ ghost use Rattle.clap.specs.Walk.{Text, texts};
 ghost use Rattle.vc_text.specs.OneNode.{ReadsAs};
 ghost use Rattle.vc_text.specs.ThreadsText.{WritesThreads};
 ghost use Rattle.vc_words.specs.CommandLine.{faults, IsFaultOf};
-ghost use Rattle.vc_words.specs.Program.{ChecksIn, ChecksNetwork, DrawsNetwork, ExplainsNetwork, FindsDeadlock, Does, DoesFile, IsThreadTextOf, LabelsNetwork, ReplaysFile, ReplaysNetwork, Runs, RunsNetwork, StepsNetwork, Tells, TellsDeadlockIn, TellsFault, TellsFaultIn, TellsLine, WritesStep, form_of_line, line_in, no_text_fault};
+ghost use Rattle.vc_words.specs.Program.{ChecksIn, ChecksNetwork, DrawsNetwork, ExplainsNetwork, FindsDeadlock, Does, DoesFile, IsThreadTextOf, LabelsNetwork, ListsMessages, ReplaysFile, ReplaysNetwork, Runs, RunsNetwork, StepsNetwork, Tells, TellsDeadlockIn, TellsFault, TellsFaultIn, TellsLine, WritesStep, form_of_line, line_in, no_text_fault};
 ghost use Rattle.vc_words.specs.Status.{status_of_acceptance as status_for_acceptance, status_of_check as status_for_check, status_of_text as status_for_text, status_of_fault, status_of_freedom as status_for_freedom, status_of_end, status_of_replay as status_for_replay};
 
 use crate::account::Account;
@@ -21,6 +21,7 @@ use vc_draw::{StateOptions, VlinkLines, run_draw, run_draw_after};
 use vc_explain::run_explain;
 use vc_json::{run_check_json, run_deadlock_json, write_fault_json, write_line_json};
 use vc_label_run::run_label;
+use vc_messages::messages_step;
 use vc_plan::CheckRefused;
 use vc_reader::ReadRefused;
 use vc_stats::{Form, json_net, json_step, stats_net, stats_step};
@@ -355,6 +356,23 @@ fn step_by<R: Read, W: Write>(
     }
 }
 
+/// Runs the network that the reader has, event by event, with its messages written, and answers the status.
+fn messages_by<R: Read, W: Write>(
+    alloc: Global,
+    reader: &mut R,
+    writer: &mut W,
+    options: StepOptions,
+    meter: &Meter,
+) -> u8
+    ensures { ListsMessages options (R.remaining reader.old)
+        (W.contents writer.old) (W.contents writer.new) result }
+{
+    match messages_step(alloc, reader, writer, options, meter) {
+        Ok(close) => status_of_close(close),
+        Err(fault) => tell_fault(alloc, fault, writer),
+    }
+}
+
 /// Runs the network that the reader has in threads, and writes what is wanted of it.
 fn write_net<T: Threads + Wait + Sync, R: Read, W: Write>(
     rt: &T,
@@ -471,6 +489,7 @@ fn do_line<T: NamedFiles + Threads + Wait + Sync, R: Read, W: Write>(
         Line::Step { options, account } => {
             step_by(alloc, reader, writer, options, account, meter)
         }
+        Line::Messages { options } => messages_by(alloc, reader, writer, options, meter),
         Line::Run { options, account } => {
             run_by(rt, alloc, reader, writer, options, account, meter)
         }

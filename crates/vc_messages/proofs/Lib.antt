@@ -1,0 +1,4 @@
+pub mod Growth
+pub mod OneTaken
+pub mod Told
+pub mod Written

@@ -1,0 +1,3 @@
+-- What only private functions, invariants and proofs cite.
+pub mod Along
+pub mod News
